@@ -1,0 +1,55 @@
+-- A table of refusals gives a number exactly if that line holds and no line above it does. One law for every table, by going down its lines.
+-- Assumes nothing.
+use Prim.Native.Nat.{ℕ}
+use mathlib.Core.Path.{_≡_, refl, sym}
+use mathlib.Core.Bool.{Bool, true, false, _&&_, not}
+use mathlib.Core.List.{List, [], _∷_, _++_}
+use native.Mathlib.Omega.{arith}
+use lib.Dec.{eqb}
+use borrow.Author.Tests.{eqb-false, not-true}
+use Rattle.wire.specs.Digits.{pick}
+use Rattle.wire.specs.Numbers.{Line, _if_, given, quiet, absent}
+use Rattle.wire.proofs.digits.Laws.{and-left, and-right}
+
+clash : true ≡ false → ⊥
+clash e = let z : _≡_ {A = ℕ} 0 1 = cc in omega arith
+
+-- the number of no line is not given
+absent-step : (t : Bool) (m n g : ℕ) → not (eqb m n) ≡ true → (g ≡ n → ⊥) → pick t m g ≡ n → ⊥
+absent-step true m n g a f e = eqb-false m n (not-true (eqb m n) a) e
+absent-step false m n g a f e = f e
+
+pub given-absent : (n : ℕ) (ls : List Line) → eqb n 0 ≡ false → absent n ls ≡ true → given ls ≡ n → ⊥
+unfolding given absent
+given-absent n [] z a e = eqb-false n 0 z (sym e)
+given-absent n (l ∷ ls) z a e =
+    absent-step (l .holds) (l .number) n (given ls) (and-left (not (eqb (l .number) n)) (absent n ls) a)
+    (given-absent n ls z (and-right (not (eqb (l .number) n)) (absent n ls) a)) e
+
+-- given, so it holds and no line above it does
+given-step : (h t q : Bool) (m n g : ℕ) → not (eqb m n) ≡ true → (g ≡ n → (t ≡ true) × (q ≡ true)) → pick h m g ≡ n → (t ≡ true) × ((not h && q) ≡ true)
+given-step true t q m n g a f e = absurd (eqb-false m n (not-true (eqb m n) a) e)
+given-step false t q m n g a f e = f e
+
+given-here : (t : Bool) (n g : ℕ) → (g ≡ n → ⊥) → pick t n g ≡ n → t ≡ true
+given-here true n g f e = refl
+given-here false n g f e = absurd (f e)
+
+module _ (n : ℕ) (z : eqb n 0 ≡ false) (after : List Line) (b : absent n after ≡ true) (t : Bool) where
+  pub given-only-if : (before : List Line) → absent n before ≡ true → given (before ++ (n if t ∷ after)) ≡ n → (t ≡ true) × (quiet before ≡ true)
+  unfolding given quiet absent
+  given-only-if [] a e = (given-here t n (given after) (given-absent n after z b) e, refl)
+  given-only-if (l ∷ before) a e =
+      given-step (l .holds) t (quiet before) (l .number) n (given (before ++ (n if t ∷ after))) (and-left (not (eqb (l .number) n)) (absent n before) a)
+      (given-only-if before (and-right (not (eqb (l .number) n)) (absent n before) a)) e
+
+-- it holds and no line above it does, so it is given
+quiet-step : (h : Bool) (m g n : ℕ) → not h ≡ true → g ≡ n → pick h m g ≡ n
+quiet-step true m g n q e = absurd (clash (sym q))
+quiet-step false m g n q e = e
+
+pub given-if : (n : ℕ) (before after : List Line) → quiet before ≡ true → given (before ++ (n if true ∷ after)) ≡ n
+unfolding given quiet
+given-if n [] after q = refl
+given-if n (l ∷ before) after q =
+    quiet-step (l .holds) (l .number) (given (before ++ (n if true ∷ after))) n (and-left (not (l .holds)) (quiet before) q) (given-if n before after (and-right (not (l .holds)) (quiet before) q))

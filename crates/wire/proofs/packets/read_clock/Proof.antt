@@ -1,0 +1,30 @@
+-- `packets::read_clock` meets its contract: `clock-body` has the table for its id, and each return is decided by the tests that led there.
+-- Assumes nothing.
+use mathlib.Core.Path.{refl, sym}
+use borrow.Author.Tests.{ne-eqb}
+use Rattle.wire.specs.Packets.{kindsOf, clockOf}
+use Rattle.wire.proofs.packets.Laws.{body-length, clock-body}
+use borrow.Author.Needs.{needs}
+use Rattle.wire.proofs.packets.read_clock.Statement.{statement}
+use Rattle.wire.proofs.packets.read_clock.Tie as tie
+
+returns : tie.Need-returns
+unfolding kindsOf
+returns c = sym (body-length 0x49 _ refl (ne-eqb _ _ (c .if1 .taken)))
+
+shared-slice-read-b : tie.Need-shared-slice-read-b
+shared-slice-read-b c = search needs
+
+returns-2 : tie.Need-returns-2
+unfolding clockOf
+returns-2 c = rw (clock-body _ (c .before .before .if1 .left)) (simp (c .match .keys1))
+
+returns-3 : tie.Need-returns-3
+unfolding clockOf
+returns-3 c = rw (clock-body _ (c .before .before .if1 .left)) (simp (c .match .keys2))
+
+returns-4 : tie.Need-returns-4
+returns-4 c = rw (clock-body _ (c .before .before .if1 .left)) (simp (ne-eqb _ _ (c .match .rest .0 .1), ne-eqb _ _ (c .match .rest .1)))
+
+pub read-clock-spec : {M : Type 1} → statement M
+read-clock-spec = tie.close (tie.spec returns shared-slice-read-b returns-2 returns-3 returns-4)

@@ -1,0 +1,50 @@
+-- Digits of any base, highest first: decimal digits, four-bit digits and bits are one thing here.
+use Prim.Native.Nat.{ℕ, zero, suc, _+_, _*_, _/_, _%_, _^_, _<_}
+use mathlib.Core.List.{List, [], _∷_, _++_}
+use mathlib.Core.Bool.{Bool, true, false, _&&_}
+use lib.ListN.{length, take, drop}
+use mathlib.Core.Path.{_≡_}
+use lib.Dec.{ltb}
+use Rattle.wire.specs.declared.digits.Split.{Split}
+
+-- the first of two values if the test holds, else the second
+abbrev pub pick : {A : Type 0} → Bool → A → A → A
+pick true a b = a
+pick false a b = b
+
+-- the lowest k digits of n in base b, highest first
+unfoldable pub digits : ℕ → ℕ → ℕ → List ℕ
+digits b zero n = []
+digits b (suc k) n = n / b ^ k % b ∷ digits b k n
+
+-- the number that digits write in base b, highest first
+unfoldable pub num : ℕ → List ℕ → ℕ
+num b [] = 0
+num b (d ∷ ds) = d * b ^ length ds + num b ds
+
+-- each digit is one of base b
+unfoldable pub below : ℕ → List ℕ → Bool
+below b [] = true
+below b (d ∷ ds) = ltb d b && below b ds
+
+-- digits handed over in m words, k digits of base b to a word
+unfoldable pub packed : ℕ → ℕ → ℕ → List ℕ → List ℕ
+packed b k zero ds = []
+packed b k (suc m) ds = num b (take k ds) ∷ packed b k m (drop k ds)
+
+-- the digits of words, k of base b from each
+unfoldable pub unpacked : ℕ → ℕ → List ℕ → List ℕ
+unpacked b k [] = []
+unpacked b k (w ∷ ws) = digits b k w ++ unpacked b k ws
+
+-- one decimal digit taken off n: `unit` goes into it so often, and the rest is below `unit`
+pub record Taken (n unit : ℕ) (r : Split) : Type 0 where
+  pub sum : n ≡ r .digits * unit + r .rest
+  pub digit : r .digits < 10
+  pub rest : r .rest < unit
+
+-- two decimal digits taken off n, as one number of base 16
+pub record TwoTaken (n unit : ℕ) (r : Split) : Type 0 where
+  pub digits : r .digits ≡ num 16 (Rattle.wire.specs.Digits.digits 10 2 (n / unit))
+  pub small : r .digits < 256
+  pub rest : r .rest ≡ n % unit
