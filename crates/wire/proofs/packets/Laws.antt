@@ -29,7 +29,7 @@ lt-or-le a zero = inr zero-le
 lt-or-le zero (suc b) = inl (suc-le-suc zero-le)
 lt-or-le (suc a) (suc b) = ⊎-elim (λ p. inl (suc-le-suc p)) (λ q. inr (suc-le-suc q)) (lt-or-le a b)
 
-and-false : (t : Bool) → (t && false) ≡ false
+pub and-false : (t : Bool) → (t && false) ≡ false
 and-false true = refl
 and-false false = refl
 

@@ -1,0 +1,174 @@
+-- Registers: what a refusal of 0 tells, and the words of a lawful card's time. Assumes nothing.
+use Prim.Native.Nat.{ℕ, _-_, _%_, _≤_, _<_}
+use native.Mathlib.Nat.{pos-of-ne-zero}
+use lib.Arith.{lt-of-le-ne}
+use mathlib.Core.Path.{_≡_, refl, sym, ap, ap₂, _∙_}
+use mathlib.Core.List.{List}
+use mathlib.Core.Bool.{Bool, true, false, _&&_, not}
+use native.Mathlib.Omega.{arith}
+use lib.Dec.{eqb, leb}
+use lib.ListN.{getD, drop}
+use borrow.Author.Tests.{le-leb, lt-leb, lt-ltb, le-ltb, eq-eqb, ne-eqb, leb-true, eqb-false}
+use Rattle.wire.specs.Numbers.{given}
+use Rattle.wire.specs.Words.{writable, wordsOf, wordsOrZero}
+use Rattle.card.specs.declared.time.Time.{Time}
+use Rattle.card.specs.declared.card.Card.{Card}
+use Rattle.card.specs.Cards.{withTimeLatch, withEventLatch, withPending, withVector}
+use Rattle.card.specs.Time.{timeLawful}
+use Rattle.card.specs.Lawful.{lawful, queueLawful}
+use Rattle.card.specs.Registers.{readRefusal, readRegister, shown, value, answer, wordsNow, writeRefusal, writeRegister, written, captures, edge, line, lineUp}
+use Rattle.card.specs.declared.registers.Interrupt.{Interrupt}
+use Rattle.card.specs.Pending.{raised, meet}
+use Rattle.wire.specs.Digits.{below}
+use Rattle.wire.proofs.digits.Laws.{and-left}
+use Rattle.wire.proofs.packets.Laws.{and-false}
+use Rattle.card.proofs.lawful.Laws.{parts}
+use Rattle.card.proofs.time.Laws.{in-range, days-in-year}
+
+-- words can be written for the time of a lawful card
+pub writable-now : (t : Time) → timeLawful t ≡ true → writable (t .day) (t .tick .ticks) ≡ true
+unfolding writable
+writable-now t h =
+    let r = in-range t h in
+    let d = days-in-year (t .year) in
+    simp (le-leb 1 (t .day) (r .proper .day-low), le-leb (t .day) 366 (omega (arith, r .proper .day-high)), lt-ltb _ _ (r .proper .tick))
+
+pub words-now : (t : Time) → timeLawful t ≡ true → wordsOrZero (t .day) (t .tick .ticks) ≡ wordsOf (t .day) (t .tick .ticks)
+unfolding wordsOrZero
+words-now t h = simp (writable-now t h)
+
+-- a refusal of 0 tells that the card is lawful
+pub read-known : (known : Bool) (reg : ℕ) → readRefusal known reg ≡ 0 → known ≡ true
+unfolding readRefusal given
+read-known true reg e = refl
+read-known false reg e = absurd (omega arith)
+
+pub write-known : (known : Bool) (reg fill : ℕ) → writeRefusal known reg fill ≡ 0 → known ≡ true
+unfolding writeRefusal given
+write-known true reg fill e = refl
+write-known false reg fill e = absurd (omega arith)
+
+-- what a reading answers
+module _ (c : Card) (reg n : ℕ) (k : Bool) (ek : k ≡ lawful c) (en : n ≡ readRefusal k reg) where
+  e : n ≡ readRefusal (lawful c) reg
+  e = en ∙ ap (λ (t : Bool). readRefusal t reg) ek
+
+  pub read-lawful : n ≡ 0 → lawful c ≡ true
+  read-lawful h = read-known (lawful c) reg (sym e ∙ h)
+
+  pub read-refused : (n ≡ 0 → ⊥) → value c n 0 ≡ readRegister c reg
+  unfolding readRegister
+  read-refused h = rw (← e) (simp (ne-eqb n 0 h))
+
+  pub read-latches : n ≡ 0 → reg ≡ 0 → (v : ℕ) → v ≡ shown c reg → (ws : List ℕ) → ws ≡ wordsNow c → value (withTimeLatch c ws) 0 v ≡ readRegister c reg
+  unfolding readRegister
+  read-latches h r v ev ws ew = ap₂ (λ (x : ℕ) (l : List ℕ). value (withTimeLatch c l) 0 x) ev ew ∙ rw (← e) (simp (h, r))
+
+  pub read-shows : n ≡ 0 → (reg ≡ 0 → ⊥) → (v : ℕ) → v ≡ shown c reg → value c 0 v ≡ readRegister c reg
+  unfolding readRegister
+  read-shows h r v ev = ap (λ (x : ℕ). value c 0 x) ev ∙ rw (← e) (simp (h, ne-eqb reg 0 r))
+
+-- what a register shows
+module _ (c : Card) (reg : ℕ) where
+  pub shows-time : (reg ≡ 0 → ⊥) → reg ≤ 5 → getD (c .«time_latch») (reg - 1) 0 ≡ shown c reg
+  unfolding shown
+  shows-time a b = simp (ne-eqb reg 0 a, le-leb reg 5 b)
+
+  pub shows-event : (reg ≡ 0 → ⊥) → 5 < reg → reg ≤ 10 → getD (c .«event_latch») (reg - 6) 0 ≡ shown c reg
+  unfolding shown
+  shows-event a b d = simp (ne-eqb reg 0 a, lt-leb reg 5 b, le-leb reg 10 d)
+
+  pub shows-vector : 10 < reg → (reg ≡ 11 → ⊥) → (reg ≡ 12 → ⊥) → (reg ≡ 14 → ⊥) → (reg ≡ 15 → ⊥) → (reg ≡ 16 → ⊥) → c .vector ≡ shown c reg
+  unfolding shown
+  shows-vector l p q r s t =
+      simp (ne-eqb reg 0 (λ z. omega arith), lt-leb reg 5 (omega arith), lt-leb reg 10 l, ne-eqb reg 11 p, ne-eqb reg 12 q, ne-eqb reg 14 r, ne-eqb reg 15 s, ne-eqb reg 16 t)
+
+-- what a writing answers
+module _ (c : Card) (reg v n : ℕ) (k : Bool) (ek : k ≡ lawful c) (en : n ≡ writeRefusal k reg (c .queue .fill)) where
+  f : n ≡ writeRefusal (lawful c) reg (c .queue .fill)
+  f = en ∙ ap (λ (t : Bool). writeRefusal t reg (c .queue .fill)) ek
+
+  pub write-accepted : n ≡ 0 → (lawful c ≡ true) × (writeRefusal true reg (c .queue .fill) ≡ 0)
+  write-accepted h =
+      let l = write-known (lawful c) reg (c .queue .fill) (sym f ∙ h) in
+      (l, ap (λ (t : Bool). writeRefusal t reg (c .queue .fill)) (sym l) ∙ sym f ∙ h)
+
+  pub write-refused : (n ≡ 0 → ⊥) → answer c n ≡ writeRegister c reg v
+  unfolding writeRegister
+  write-refused h = rw (← f) (simp (ne-eqb n 0 h))
+
+  pub write-done : n ≡ 0 → written c reg v ≡ writeRegister c reg v
+  unfolding writeRegister
+  write-done h = rw (← f) (simp h)
+
+-- the lines behind 2: a register in reach of writing
+module _ (k : Bool) (reg fill : ℕ) (l : k ≡ true) (m : reg ≤ 17) (g : 10 < reg) where
+  two : (leb 1 reg && leb reg 10) ≡ false
+  two = ap (λ (t : Bool). leb 1 reg && t) (lt-leb reg 10 g) ∙ and-false (leb 1 reg)
+
+  pub write-3 : reg ≡ 13 → fill ≡ 64 → 3 ≡ writeRefusal k reg fill
+  unfolding writeRefusal given
+  write-3 r e = simp (l, le-ltb 17 reg m, two, eq-eqb reg 13 r, eq-eqb fill 64 e)
+
+  pub write-0 : (eqb reg 13 && eqb fill 64) ≡ false → 0 ≡ writeRefusal k reg fill
+  unfolding writeRefusal given
+  write-0 e = simp (l, le-ltb 17 reg m, two, e)
+
+pub write-2 : (k : Bool) (reg fill : ℕ) → k ≡ true → reg ≤ 17 → (reg ≡ 0 → ⊥) → reg ≤ 10 → 2 ≡ writeRefusal k reg fill
+unfolding writeRefusal given
+write-2 k reg fill l m z t = simp (l, le-ltb 17 reg m, le-leb 1 reg (pos-of-ne-zero z), le-leb reg 10 t)
+
+-- room in a lawful card's queue
+pub queue-within : (c : Card) → lawful c ≡ true → c .queue .fill ≤ 64
+unfolding queueLawful
+queue-within c h = leb-true (c .queue .fill) 64 (and-left (leb (c .queue .fill) 64) (below 1 (drop (c .queue .fill) (c .queue .bytes))) (parts c h .queue))
+
+not-full : (fill : ℕ) → fill ≤ 64 → (t : Bool) → eqb fill 64 ≡ t → writeRefusal true 13 fill ≡ 0 → fill < 64
+unfolding writeRefusal given
+not-full fill l true e z = absurd (let q = simp e at z in omega arith)
+not-full fill l false e z = lt-of-le-ne l (eqb-false fill 64 e)
+
+pub queue-room : (c : Card) (reg : ℕ) → lawful c ≡ true → reg ≡ 13 → writeRefusal true reg (c .queue .fill) ≡ 0 → c .queue .fill < 64
+queue-room c reg h r z = not-full (c .queue .fill) (queue-within c h) (eqb (c .queue .fill) 64) refl (ap (λ (n : ℕ). writeRefusal true n (c .queue .fill)) (sym r) ∙ z)
+
+pub writes-vector : (c : Card) (reg v : ℕ) → (reg ≡ 0 → ⊥) → (reg ≡ 11 → ⊥) → (reg ≡ 12 → ⊥) → (reg ≡ 13 → ⊥) → (reg ≡ 14 → ⊥) → (reg ≡ 15 → ⊥) → (reg ≡ 16 → ⊥) →
+    answer (withVector c (v % 256)) 0 ≡ written c reg v
+unfolding written
+writes-vector c reg v a b d e f g h =
+    simp (ne-eqb reg 0 a, ne-eqb reg 11 b, ne-eqb reg 12 d, ne-eqb reg 13 e, ne-eqb reg 14 f, ne-eqb reg 15 g, ne-eqb reg 16 h)
+
+-- what an edge answers
+module _ (c : Card) (falling : Bool) (k t : Bool) (ek : k ≡ lawful c) (et : t ≡ captures (c .control) falling) where
+  pub edge-18 : k ≡ false → answer c 18 ≡ edge c falling
+  unfolding edge
+  edge-18 h = simp (sym ek ∙ h)
+
+  pub edge-captured : k ≡ true → t ≡ true → (ws : List ℕ) → ws ≡ wordsNow c → (p : ℕ) → p ≡ raised 1 true (c .pending) → answer (withPending (withEventLatch c ws) p) 0 ≡ edge c falling
+  unfolding edge
+  edge-captured h u ws ew p ep =
+      ap₂ (λ (l : List ℕ) (n : ℕ). answer (withPending (withEventLatch c l) n) 0) ew ep ∙ simp (sym ek ∙ h, sym et ∙ u)
+
+  pub edge-other : k ≡ true → t ≡ false → answer c 0 ≡ edge c falling
+  unfolding edge
+  edge-other h u = simp (sym ek ∙ h, sym et ∙ u)
+
+-- what the line answers
+abbrev interrupt : ℕ → Bool → ℕ → ℕ → Interrupt
+interrupt n up level vector = record { number = n; up = up; level = level; vector = vector }
+
+module _ (c : Card) (k : Bool) (ek : k ≡ lawful c) where
+  pub line-18 : k ≡ false → interrupt 18 false 0 0 ≡ line c
+  unfolding line
+  line-18 h = simp (sym ek ∙ h)
+
+  pub line-up : k ≡ true → (c .level ≡ 0 → ⊥) → meet (c .pending) (c .mask) ≡ true → interrupt 0 true (c .level) (c .vector) ≡ line c
+  unfolding line lineUp
+  line-up h l m = simp (sym ek ∙ h, ne-eqb (c .level) 0 l, m)
+
+  pub line-quiet : k ≡ true → meet (c .pending) (c .mask) ≡ false → interrupt 0 false 0 0 ≡ line c
+  unfolding line lineUp
+  line-quiet h m = simp (sym ek ∙ h, m, and-false)
+
+  pub line-off : k ≡ true → c .level ≡ 0 → interrupt 0 false 0 0 ≡ line c
+  unfolding line lineUp
+  line-off h l = simp (sym ek ∙ h, eq-eqb (c .level) 0 l)

@@ -1,0 +1,49 @@
+-- `saved::load` meets its contract: each return is decided by the card and by what the bytes are loaded as.
+-- Assumes nothing.
+use mathlib.Core.Path.{sym, _∙_, ap}
+use borrow.Author.Tests.{not-true, not-false}
+use Rattle.card.specs.declared.card.Card.{Card}
+use Rattle.card.specs.declared.saved.SettingsRead.the-variants as SettingsRead
+use Rattle.card.proofs.saved.Calls.{load-18, load-read}
+use borrow.Author.Needs.{needs}
+use Rattle.card.proofs.saved.load.Statement.{statement}
+use Rattle.card.proofs.saved.load.Tie as tie
+
+is-lawful-requires : tie.Need-is-lawful-requires
+is-lawful-requires c κs = search needs
+
+returns : tie.Need-returns
+returns c = load-18 _ _ (sym (c .before .is-lawful .ensures) ∙ not-true _ (c .if1 .taken))
+
+load-settings-requires : tie.Need-load-settings-requires
+load-settings-requires c κs = search needs
+
+enum-told : tie.Need-enum-told
+enum-told c = search needs
+
+enum-known-read : tie.Need-enum-known-read
+enum-known-read c = search needs
+
+with-settings-requires : tie.Need-with-settings-requires
+with-settings-requires c κs = search needs
+
+returns-2 : tie.Need-returns-2
+returns-2 c = load-read _ _ (sym (c .before .before .before .before .is-lawful .ensures) ∙ not-false _ (c .before .before .before .if1 .left)) SettingsRead.Refused (sym (c .enum-told .given .1) ∙ c .before .before .load-settings .ensures)
+
+returns-3 : tie.Need-returns-3
+returns-3 c =
+    ap (λ (k : Card). record { card = k; number = 0 }) (c .with-settings .ensures)
+    ∙ load-read _ _ (sym (c .before .before .before .before .before .before .is-lawful .ensures) ∙ not-false _ (c .before .before .before .before .before .if1 .left)) (SettingsRead.Is _) (sym (c .before .before .read .given .1) ∙ c .before .before .before .before .load-settings .ensures)
+
+pub load-spec : {M : Type 1} → statement M
+load-spec =
+    tie.close
+    (tie.spec
+    is-lawful-requires
+    returns
+    load-settings-requires
+    enum-told
+    enum-known-read
+    with-settings-requires
+    returns-2
+    returns-3)

@@ -1,0 +1,85 @@
+// Reset, and a fresh card.
+use crate::card::Answer;
+use crate::card::Card;
+use crate::card::Periodic;
+use crate::card::Settings;
+use crate::card::Strobe;
+use crate::lawful::is_lawful;
+use crate::packets::empty_queue;
+use crate::time::Time;
+use wire::packets::Clock;
+use wire::packets::Format;
+use wire::packets::Generator;
+use wire::packets::Modulation;
+use wire::time::Ticks;
+ghost use mathlib.Core.Path.{_≡_};
+ghost use Rattle.card.specs.Reset.{resetCard, reset, freshCard};
+
+// A reset card of a time, with what stays of these settings.
+fn reset_card(time: Time, settings: Settings) -> Card
+    ensures { λ r. ⌜ r ≡ resetCard time settings ⌝ }
+{
+    let mode = settings.mode;
+    let format = settings.format;
+    let modulation = settings.modulation;
+    let generator = settings.generator;
+    let queue = empty_queue();
+    Card {
+        time: time,
+        time_latch: [0, 0, 0, 0, 0],
+        event_latch: [0, 0, 0, 0, 0],
+        control: 0,
+        done: false,
+        mask: 0,
+        pending: 0,
+        level: 0,
+        vector: 0,
+        queue: queue,
+        settings: Settings {
+            mode: mode,
+            format: format,
+            modulation: modulation,
+            clock: Clock::Internal,
+            generator: generator,
+            offset: 0,
+        },
+        strobe: Strobe::Off,
+        periodic: Periodic::Off,
+    }
+}
+
+// Resets a card: time, year, mode, format, modulation and generator code stay.
+pub fn reset(card: Card) -> Answer
+    ensures { λ r. ⌜ r ≡ reset card ⌝ }
+{
+    if !is_lawful(card) {
+        return Answer {
+            card: card,
+            number: 18,
+        };
+    }
+    let time = card.time;
+    let settings = card.settings;
+    let c = reset_card(time, settings);
+    Answer { card: c, number: 0 }
+}
+
+// A reset card with year 1, day 1, tick 0, mode 0, format B, modulation M, generator B.
+pub fn fresh_card() -> Card
+    ensures { λ r. ⌜ r ≡ freshCard ⌝ }
+{
+    let time = Time {
+        year: 1,
+        day: 1,
+        tick: Ticks { ticks: 0 },
+    };
+    let settings = Settings {
+        mode: 0,
+        format: Format::B,
+        modulation: Modulation::M,
+        clock: Clock::Internal,
+        generator: Generator::B,
+        offset: 0,
+    };
+    reset_card(time, settings)
+}
