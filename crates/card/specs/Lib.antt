@@ -1,3 +1,4 @@
+pub mod Calls
 pub mod Cards
 pub mod Falling
 pub mod Lawful
