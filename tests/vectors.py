@@ -1,0 +1,77 @@
+#!/usr/bin/env python3
+"""The bench's vectors: each input, and the listing that the page asks for.
+
+    python3 tests/vectors.py FOLDER
+
+writes FOLDER/NAME/stdin and FOLDER/NAME/stdout for each of them. Nothing is read, so what the programs print can never become what they must print.
+`python3 tests/vectors.py crates` writes those that the gate compares.
+"""
+import os
+import random
+import sys
+
+from listing import KINDS, listing
+
+
+def packet(text):
+    """A packet with this id and data."""
+    return b"\x01" + text + b"\x17"
+
+
+def borders():
+    """Around 41 bytes: the 0x17 behind 40 others, behind 41, none at all, and a rest of 40."""
+    forty = b"\x01A" + b"0" * 38
+    return (forty + b"\x17") + (forty + b"0" + b"\x17") + (forty + b"0") + forty
+
+
+def ids():
+    """Each byte as an id. As 0x17 it ends its packet, and the 0x17 behind it stands alone."""
+    return b"".join(packet(bytes([byte])) for byte in range(256))
+
+
+def guide():
+    """The user's guide's worked packets: A, B and G, its H without a modulation, and P."""
+    return b"".join(packet(text) for text in (b"A1", b"B123112233", b"A0", b"HB", b"G+0025000", b"P04"))
+
+
+def tables():
+    """Every id with each byte in each place of its data, the other places held at a byte of their kind."""
+    out = []
+    for ident, kinds in KINDS.items():
+        good = bytes(kind[0] for kind in kinds)
+        for place in range(len(kinds)):
+            for byte in range(256):
+                out.append(packet(ident + good[:place] + bytes([byte]) + good[place + 1:]))
+    return b"".join(out)
+
+
+def noise():
+    """Bytes without order, more than one read brings, mostly of those that packets are made of."""
+    source = random.Random(635)
+    common = b"\x01\x01\x17\x17AGHIK+-0123456789BCDEMNX"
+    return bytes(source.choice(common) if source.random() < 0.97 else source.randrange(256) for _ in range(100_000))
+
+
+VECTORS = {
+    "bench": b"\x01A0\x17\x01Z\x17",
+    "bench_empty": b"",
+    "bench_rest": b"\x01A0\x17\x01A0",
+    "bench_borders": borders(),
+    "bench_ids": ids(),
+    "bench_guide": guide(),
+    "bench_tables": tables(),
+    "bench_noise": noise(),
+}
+
+
+def main(folder):
+    for name, data in VECTORS.items():
+        place = os.path.join(folder, name)
+        os.makedirs(place, exist_ok=True)
+        for file, content in (("stdin", data), ("stdout", listing(data))):
+            with open(os.path.join(place, file), "wb") as out:
+                out.write(content)
+
+
+if __name__ == "__main__":
+    main(*sys.argv[1:])
