@@ -225,27 +225,9 @@ pub(crate) fn load_settings(bytes: &[u8]) -> SettingsRead
 fn with_settings(card: Card, settings: Settings) -> Card
     ensures { λ r. ⌜ r ≡ withSettings card settings ⌝ }
 {
-    let time = card.time;
-    let time_latch = card.time_latch;
-    let event_latch = card.event_latch;
-    let queue = card.queue;
-    let strobe = card.strobe;
-    let periodic = card.periodic;
-    Card {
-        time: time,
-        time_latch: time_latch,
-        event_latch: event_latch,
-        control: card.control,
-        done: card.done,
-        mask: card.mask,
-        pending: card.pending,
-        level: card.level,
-        vector: card.vector,
-        queue: queue,
-        settings: settings,
-        strobe: strobe,
-        periodic: periodic,
-    }
+    let mut c = card;
+    c.settings = settings;
+    c
 }
 
 // A card's settings, saved at the front of a row: 18 for a card that is not lawful, 14 where the row is too short. Places behind them, and the
