@@ -7,9 +7,8 @@ use mathlib.Core.Logic.{_⊎_, inl, inr, ⊎-elim, _↔_}
 use native.Mathlib.Omega.{arith}
 use lib.Dec.{eqb, lit<}
 use Rattle.wire.specs.Digits.{pick}
-use Rattle.wire.proofs.digits.Laws.{and-left, and-right}
+use Rattle.wire.proofs.digits.Laws.{lt-or-le, and-left, and-right}
 use Rattle.card.specs.Pending.{bit, lowered, cleared, meet}
-use Rattle.card.proofs.time.Laws.{lt-or-le}
 use Rattle.card.proofs.Keeps.{lowered-within}
 
 -- ---- a test of every number below n

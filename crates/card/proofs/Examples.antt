@@ -2,7 +2,7 @@
 -- are lines of `waiting/Examples`, which holds of every card with that time, strobe, dividers and count. Assumes nothing.
 use Prim.Native.Nat.{ℕ}
 use mathlib.Core.Path.{_≡_, refl}
-use mathlib.Core.List.{List, [], _∷_, _++_, map}
+use mathlib.Core.List.{List, [], _∷_, map}
 use lib.IntN.{pos}
 use Rattle.wire.specs.Digits.{digits, num, below, packed, unpacked}
 use Rattle.wire.specs.Numbers.{given}

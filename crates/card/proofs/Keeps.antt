@@ -16,7 +16,7 @@ use Rattle.wire.specs.Packets.{modeMeans, pairMeans, offsetFits, fits, means}
 use Rattle.wire.specs.declared.packets.Packet.{Packet}
 use Rattle.wire.specs.declared.packets.Packet.the-variants as Packet
 use Rattle.wire.specs.declared.words.TimeRead.{TimeRead}
-use Rattle.wire.proofs.digits.Laws.{below-drop}
+use Rattle.wire.proofs.digits.Laws.{and-both, below-drop}
 use Rattle.wire.proofs.words.RoundTrip.{read-written}
 use Rattle.wire.proofs.packets.RoundTrip.{written-read}
 use Rattle.card.specs.declared.time.Time.{Time}
@@ -42,7 +42,7 @@ use Rattle.card.specs.Reset.{resetCard, freshCard}
 use Rattle.card.specs.Saved.{bitsAt, settingsIn, meaningful, savedRefusal}
 use Rattle.card.specs.Calls.{Call, after}
 use Rattle.card.proofs.lawful.Laws.{Parts, parts, whole}
-use Rattle.card.proofs.time.Laws.{and-both, time-lawful}
+use Rattle.card.proofs.time.Laws.{time-lawful}
 use Rattle.card.proofs.registers.Laws.{writable-now}
 use Rattle.card.proofs.waiting.Stays
 use Rattle.card.proofs.saved.RoundTrip.{no-line}

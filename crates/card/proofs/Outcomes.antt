@@ -18,6 +18,7 @@ use Rattle.wire.specs.declared.packets.Packet.{Packet}
 use Rattle.wire.specs.declared.packets.PacketRead.{PacketRead}
 use Rattle.wire.specs.declared.packets.PacketRead.the-variants as PacketRead
 use Rattle.wire.proofs.numbers.Laws.{given-absent}
+use Rattle.wire.proofs.digits.Laws.{lt-or-le, and-both}
 use Rattle.card.specs.declared.card.Card.{Card}
 use Rattle.card.specs.declared.card.Answer.{Answer}
 use Rattle.card.specs.declared.registers.Value.{Value}
@@ -41,7 +42,6 @@ use Rattle.card.specs.Reset.{resetCard}
 use Rattle.card.specs.Saved
 use Rattle.card.specs.Saved.{savedRefusal, settingsIn, saveRefusal}
 use Rattle.card.specs.Calls.{Call, after, number}
-use Rattle.card.proofs.time.Laws.{lt-or-le, and-both}
 use Rattle.card.proofs.registers.Laws.{queue-within}
 
 -- what an accepted call does to a lawful card

@@ -3,10 +3,6 @@
 use Prim.Native.Nat.{ℕ}
 use mathlib.Core.Bool.{Bool}
 use mathlib.Core.List.{List}
-use Rattle.wire.specs.declared.packets.Format.{Format}
-use Rattle.wire.specs.declared.packets.Modulation.{Modulation}
-use Rattle.wire.specs.declared.packets.Clock.{Clock}
-use Rattle.wire.specs.declared.packets.Generator.{Generator}
 use Rattle.card.specs.declared.time.Time.{Time}
 use Rattle.card.specs.declared.card.Queue.{Queue}
 use Rattle.card.specs.declared.card.Settings.{Settings}

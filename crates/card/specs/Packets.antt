@@ -1,6 +1,6 @@
 -- Packets: the queue read as one packet, and what a packet sets.
 use Prim.Native.Nat.{ℕ}
-use mathlib.Core.Bool.{Bool, true, false}
+use mathlib.Core.Bool.{true, false}
 use mathlib.Core.List.{List}
 use lib.ListN.{take, replicate}
 use Rattle.wire.specs.Digits.{pick}

@@ -1,6 +1,6 @@
 -- Pending bits, by their weights: 1 event, 2 periodic, 4 strobe, 8 second, 16 output packet.
 use Prim.Native.Nat.{ℕ, _+_, _-_, _/_, _%_}
-use mathlib.Core.Bool.{Bool, true, false, _&&_, _||_}
+use mathlib.Core.Bool.{Bool, _&&_, _||_}
 use lib.Dec.{eqb}
 use Rattle.wire.specs.Digits.{pick}
 

@@ -1,7 +1,5 @@
 -- Reset, and a fresh card.
-use Prim.Native.Nat.{ℕ}
-use mathlib.Core.Bool.{Bool, true, false}
-use lib.ListN.{replicate}
+use mathlib.Core.Bool.{false}
 use lib.IntN.{pos}
 use Rattle.wire.specs.Digits.{pick}
 use Rattle.wire.specs.Words.{zeroWords}

@@ -1,6 +1,6 @@
 -- Saved settings: five bytes, fields highest bit first.
 use Prim.Native.Nat.{ℕ, _+_}
-use mathlib.Core.Bool.{Bool, true, false, _&&_, not}
+use mathlib.Core.Bool.{Bool, _&&_, not}
 use mathlib.Core.List.{List, [], _∷_, _++_}
 use lib.ListN.{length, take, drop, replicate}
 use lib.IntN.{ℤ, pos, negsuc, negℤ, natAbs}

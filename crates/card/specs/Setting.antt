@@ -1,10 +1,8 @@
 -- Setting the time, the strobe and the periodic output.
 use Prim.Native.Nat.{ℕ, _+_, _*_}
-use mathlib.Core.Bool.{Bool, true, false, _&&_, not}
-use mathlib.Core.List.{List, [], _∷_}
-use lib.Dec.{leb, ltb, eqb}
+use mathlib.Core.Bool.{Bool, true, _&&_, not}
+use lib.Dec.{leb}
 use Rattle.wire.specs.Digits.{pick}
-use Rattle.wire.specs.Numbers.{_if_, given}
 use Rattle.wire.specs.Time.{tickAt}
 use Rattle.card.specs.declared.card.Strobe.{Strobe}
 use Rattle.card.specs.declared.card.Strobe.the-variants as Strobe

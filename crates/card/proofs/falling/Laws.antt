@@ -10,6 +10,7 @@ use borrow.Author.Tests.{eq-eqb, ne-eqb, eqb-true, leb-true, ltb-true}
 use lib.Dec.{leb, ltb, eqb}
 use Rattle.wire.specs.Time.{ticksOfDay}
 use Rattle.wire.specs.declared.time.Milliseconds.{Milliseconds}
+use Rattle.wire.proofs.digits.Laws.{lt-or-le, and-both}
 use Rattle.card.specs.declared.card.Strobe.{Strobe}
 use Rattle.card.specs.declared.card.Strobe.the-variants as Strobe
 use Rattle.card.specs.declared.card.Periodic.{Periodic}
@@ -18,7 +19,7 @@ use Rattle.card.specs.declared.time.Time.{Time}
 use Rattle.card.specs.Time.{later}
 use Rattle.card.specs.Falling.{secondFalls, strobeFalls, periodicFalls, strobeLawful, periodicLawful}
 use Rattle.card.specs.Sources.{Gap, NextFall, Rhythm, secondOn, strobeOn}
-use Rattle.card.proofs.time.Laws.{lt-or-le, and-both, Proper, later-tick}
+use Rattle.card.proofs.time.Laws.{Proper, later-tick}
 
 -- ---- remainders
 

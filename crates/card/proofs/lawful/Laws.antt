@@ -2,7 +2,7 @@
 -- Assumes nothing.
 use Prim.Native.Nat.{ℕ, zero, suc, _+_, _*_, _-_, _≤_, _<_}
 use mathlib.Core.Path.{_≡_, refl, sym, ap, _∙_}
-use mathlib.Core.Bool.{Bool, true, false, _&&_}
+use mathlib.Core.Bool.{Bool, true, _&&_}
 use mathlib.Core.List.{List, [], _∷_}
 use native.Mathlib.Numerals.{add-one}
 use native.Mathlib.Omega.{arith}
@@ -11,14 +11,11 @@ use lib.ListN.{length, drop, getD, drop-of-length-le}
 use lib.Seq.{drop-cons}
 use borrow.Author.Tests.{ne-eqb, le-ltb}
 use Rattle.wire.specs.Digits.{below}
-use Rattle.wire.proofs.digits.Laws.{and-left, and-right, and-assoc}
+use Rattle.wire.proofs.digits.Laws.{and-both, and-assoc}
 use Rattle.card.specs.declared.card.Card.{Card}
 use Rattle.card.specs.Time.{timeLawful}
 use Rattle.card.specs.Falling.{strobeLawful, periodicLawful}
 use Rattle.card.specs.Lawful.{latchLawful, registersLawful, queueLawful, settingsLawful, lawful}
-
-and-both : (s t : Bool) → (s && t) ≡ true → (s ≡ true) × (t ≡ true)
-and-both s t e = (and-left s t e, and-right s t e)
 
 unfoldable pub total : List ℕ → ℕ
 total [] = 0

@@ -1,10 +1,10 @@
 -- Pending bits. Assumes nothing.
-use Prim.Native.Nat.{ℕ, _/_, _%_, _≤_, _<_}
-use mathlib.Core.Path.{_≡_, sym, ap, _∙_}
+use Prim.Native.Nat.{ℕ, _/_, _%_, _≤_}
+use mathlib.Core.Path.{_≡_}
 use mathlib.Core.Logic.{⊎-elim}
 use native.Mathlib.Nat.{div-eq-of-lt}
 use native.Mathlib.Omega.{arith}
-use Rattle.wire.proofs.packets.Laws.{lt-or-le}
+use Rattle.wire.proofs.digits.Laws.{lt-or-le}
 
 -- a number with the bit of weight w set is at least w
 pub bit-within : (n w : ℕ) → n / w % 2 ≡ 1 → w ≤ n

@@ -8,14 +8,11 @@ use native.Mathlib.Nat.{div-one}
 use native.Mathlib.Omega.{arith}
 use lib.Arith.{digits-div}
 use lib.Dec.{leb, ltb, eqb, lit<}
-use lib.IntN.{ℤ, pos, negsuc, negℤ, natAbs, _-ℤ_, +ℤ-idl}
+use lib.IntN.{ℤ, pos, negsuc, natAbs}
 use lib.Signed.{ltZ}
 use lib.ListN.{length, take, drop, getD, replicate}
 use lib.Seq.{take-at, drop-at, sets, sets-eq}
 use borrow.Author.Tests.{ltb-true, leb-true, eq-eqb, eqb-true}
-use mir.Syntax.{w32}
-use mir.Val.{SFits, toZ, ofZ}
-use mir.ValLaws.{toZ-pos, toZ-ofZ}
 use Rattle.wire.specs.Digits.{pick, digits, num, below, packed, unpacked}
 use Rattle.wire.specs.Packets.{modeMeans, pairMeans, offsetFits}
 use Rattle.wire.proofs.digits.Laws.{and-left, and-right, zeros, digits-length, digits-above, digits-mod-pow, digits-split, num-digits}
@@ -221,16 +218,3 @@ sign-minus (negsuc n) e = refl
 pub sign-plus : (z : ℤ) → ltZ z (pos 0) ≡ false → 0 ≡ signBit z
 sign-plus (pos n) e = refl
 sign-plus (negsuc n) e = absurd (let q : _≡_ {A = ℕ} 0 1 = cc in omega arith)
-
-neg-fits : (n : ℕ) → n < 16777216 → SFits w32 (negℤ (pos n))
-neg-fits zero h = record { sfits = lit< tt }
-neg-fits (suc n) h = record { sfits = omega arith }
-
-pub minus-fits : (n : ℕ) → n < 16777216 → SFits w32 (pos 0 -ℤ pos n)
-minus-fits n h = rw (+ℤ-idl (negℤ (pos n))) (neg-fits n h)
-
-pub plain : (n : ℕ) → n < 16777216 → toZ w32 n ≡ pos n
-plain n h = toZ-pos w32 n (omega arith)
-
-pub negated : (n : ℕ) → n < 16777216 → toZ w32 (ofZ w32 (pos 0 -ℤ toZ w32 n)) ≡ negℤ (pos n)
-negated n h = ap (λ (z : ℤ). toZ w32 (ofZ w32 (pos 0 -ℤ z))) (plain n h) ∙ toZ-ofZ w32 (pos 0 -ℤ pos n) (minus-fits n h) ∙ +ℤ-idl (negℤ (pos n))

@@ -1,26 +1,17 @@
 -- The card's time, ticks later. Assumes nothing.
-use Prim.Native.Nat.{ℕ, zero, suc, _+_, _-_, _%_, _≤_, _<_, zero-le, suc-le-suc}
+use Prim.Native.Nat.{ℕ, zero, suc, _+_, _-_, _%_, _≤_, _<_}
 use mathlib.Core.Path.{_≡_, sym, _∙_, ap}
-use mathlib.Core.Bool.{Bool, true, false, _&&_}
-use mathlib.Core.Logic.{_⊎_, inl, inr, ⊎-elim}
+use mathlib.Core.Bool.{Bool, true, false}
+use mathlib.Core.Logic.{_⊎_, ⊎-elim}
 use native.Mathlib.Nat.{add-zero, add-suc}
 use native.Mathlib.Omega.{arith}
 use borrow.Author.Tests.{lt-ltb, le-ltb, le-leb, leb-true, ltb-true}
 use lib.Dec.{eqb, lit<, lit≤}
-use Rattle.wire.proofs.digits.Laws.{and-left, and-right}
+use Rattle.wire.proofs.digits.Laws.{lt-or-le, and-both}
 use Rattle.wire.specs.Digits.{pick}
 use Rattle.wire.specs.Time.{ticksOfDay}
 use Rattle.card.specs.declared.time.Time.{Time}
 use Rattle.card.specs.Time.{daysIn, instant, next, later, timeLawful}
-
-pub lt-or-le : (a b : ℕ) → (a < b) ⊎ (b ≤ a)
-lt-or-le a zero = inr zero-le
-lt-or-le zero (suc b) = inl (suc-le-suc zero-le)
-lt-or-le (suc a) (suc b) = ⊎-elim (λ p. inl (suc-le-suc p)) (λ q. inr (suc-le-suc q)) (lt-or-le a b)
-
--- both sides of an `and` that is true
-pub and-both : (a b : Bool) → a && b ≡ true → (a ≡ true) × (b ≡ true)
-and-both a b e = (and-left a b e, and-right a b e)
 
 -- ---- lawful times
 

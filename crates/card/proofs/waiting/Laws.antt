@@ -8,10 +8,10 @@ use native.Mathlib.Omega.{arith}
 use borrow.Author.Tests.{le-leb, lt-leb}
 use lib.ListN.{length, getD, take, length-append, length-take, List·getD-append}
 use lib.Seq.{take-append-le, take-all, getD-at, getD-take, length-take-le}
+use Rattle.wire.proofs.digits.Laws.{lt-or-le}
 use Rattle.card.specs.declared.card.Card.{Card}
 use Rattle.card.specs.Falling.{falls}
 use Rattle.card.specs.Waiting.{recordOf, records, listed, passed}
-use Rattle.card.proofs.time.Laws.{lt-or-le}
 use Rattle.card.proofs.waiting.Window.{after, split, same-records, record-one, falls-below}
 
 -- ---- exactness

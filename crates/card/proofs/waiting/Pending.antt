@@ -10,6 +10,7 @@ use borrow.Author.Tests.{eq-eqb, ne-eqb, le-leb, lt-leb}
 use lib.Dec.{leb, eqb}
 use Rattle.wire.specs.Digits.{pick}
 use Rattle.wire.specs.Time.{ticksOfDay}
+use Rattle.wire.proofs.digits.Laws.{lt-or-le}
 use Rattle.card.specs.declared.card.Card.{Card}
 use Rattle.card.specs.declared.falling.Sources.{Sources}
 use Rattle.card.specs.Time.{later}
@@ -17,7 +18,6 @@ use Rattle.card.specs.Falling.{secondFalls, strobeFalls, periodicFalls, 
 use Rattle.card.specs.Pending.{raised}
 use Rattle.card.specs.Waiting.{recordOf, records, lists, pendingAfter}
 use Rattle.card.specs.Sources.{NextFall, Ready, secondOn, strobeOn, Hears}
-use Rattle.card.proofs.time.Laws.{lt-or-le}
 
 -- ---- which sources a list has
 

@@ -6,6 +6,7 @@ use native.Mathlib.Nat.{mod-lt}
 use native.Mathlib.Omega.{arith}
 use borrow.Author.Tests.{eq-eqb, lt-ltb, ltb-true}
 use lib.Dec.{leb, ltb, eqb}
+use Rattle.wire.proofs.digits.Laws.{and-both}
 use Rattle.card.specs.declared.card.Periodic.{Periodic}
 use Rattle.card.specs.declared.card.Periodic.the-variants as Periodic
 use Rattle.card.specs.declared.card.Card.{Card}
@@ -13,7 +14,7 @@ use Rattle.card.specs.declared.time.Time.{Time}
 use Rattle.card.specs.Time.{later, timeLawful}
 use Rattle.card.specs.Falling.{strobeLawful, periodicLawful}
 use Rattle.card.specs.Waiting.{listed, passed, countLater, cardAfter, waitRefusal, waitOn}
-use Rattle.card.proofs.time.Laws.{and-both, in-range, later-add, later-proper, later-year, later-lawful}
+use Rattle.card.proofs.time.Laws.{in-range, later-add, later-proper, later-year, later-lawful}
 use Rattle.card.proofs.waiting.Laws.{passes}
 use Rattle.card.proofs.waiting.Pending.{pending-below}
 use Rattle.card.proofs.waiting.Answer.{Accepted, accepted}

@@ -14,6 +14,7 @@ use lib.ListN.{length, getD, take, drop, set, length-append, length-set, List·g
 use lib.Seq.{take-at, take-all, set-at, drop-cons, getD-at}
 use Rattle.wire.specs.Digits.{pick}
 use Rattle.wire.specs.Time.{ticksOfDay}
+use Rattle.wire.proofs.digits.Laws.{lt-or-le}
 use Rattle.card.specs.declared.card.Card.{Card}
 use Rattle.card.specs.declared.falling.Source.{Source}
 use Rattle.card.specs.declared.falling.Sources.{Sources}
@@ -21,7 +22,6 @@ use Rattle.card.specs.Time.{later}
 use Rattle.card.specs.Falling.{secondFalls, strobeFalls, periodicFalls, falls}
 use Rattle.card.specs.Waiting.{recordOf, records, listed, passed}
 use Rattle.card.specs.Sources.{Rhythm, Ready, secondOn, strobeOn, leastOf, marks, pastOf, allPast, Brief, ListsFor, Lists}
-use Rattle.card.proofs.time.Laws.{lt-or-le}
 
 -- ---- the records, from one tick on which anything falls to the next
 

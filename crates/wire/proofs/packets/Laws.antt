@@ -1,33 +1,27 @@
 -- Packets. Assumes nothing.
-use Prim.Native.Nat.{ℕ, zero, suc, _+_, _*_, _-_, _/_, _%_, _^_, _≤_, _<_, zero-le, suc-le-suc, min}
+use Prim.Native.Nat.{ℕ, zero, suc, _+_, _*_, _-_, _^_, _≤_, _<_, zero-le, min}
 use mathlib.Core.Path.{_≡_, refl, sym, _∙_, ap, ap₂}
 use mathlib.Core.Bool.{Bool, true, false, _&&_, _||_, not}
 use mathlib.Core.List.{List, [], _∷_, _++_}
-use mathlib.Core.Logic.{_⊎_, inl, inr, ⊎-elim}
+use mathlib.Core.Logic.{_⊎_, ⊎-elim}
 use native.Mathlib.Omega.{arith}
 use native.Mathlib.Nat.{pow-suc, pos-of-ne-zero}
 use native.Mathlib.Numerals.{add-one}
-use lib.Dec.{leb, ltb, eqb, lit<, lit≤, eqb·suc-zero, leb·suc-suc}
-use lib.ListN.{length, take, drop, getD, length-append, drop-of-length-le, length-drop, replicate}
+use lib.Dec.{leb, ltb, eqb, lit<, eqb·suc-zero, leb·suc-suc}
+use lib.ListN.{length, take, drop, getD, drop-of-length-le, length-drop, replicate}
 use lib.Seq.{take-suc, take-all, drop-cons, getD-drop, length-take-le, sets, sets-eq}
-use borrow.Author.Tests.{lt-ltb, le-ltb, le-leb, lt-leb, ltb-true, ltb-false, leb-true, eq-eqb, ne-eqb, eqb-true}
+use borrow.Author.Tests.{lt-ltb, le-ltb, le-leb, lt-leb, leb-true, eq-eqb, ne-eqb}
 use Rattle.wire.specs.Digits.{pick, digits, num, below}
 use Rattle.wire.specs.Packets.{has, placeOf, bodyOf, frameLines, packetRefusal, readPacket, readFramed, isDecimal, isOctal, isSign, isFormat, isModulation, isClock, isGenerator, modeMeans, pairMeans, formatOf, modulationOf, clockOf, generatorOf, offsetOf, allDecimal, values, readNumber, kindsOf, ofKinds, bodyLines, means, meaning, readAs, readBody, readPair, readSigned, fits, written as wrote, writeRefusal, writePacket, rowWritten, bytesOf, put, putInto}
 use Rattle.wire.specs.declared.packets.Packet.{Packet}
 use Rattle.wire.specs.declared.packets.Packet.the-variants as Packet
 use Rattle.wire.specs.declared.packets.PacketWritten.{PacketWritten}
-use lib.IntN.{ℤ, pos, negsuc, negℤ, natAbs}
 use Rattle.wire.specs.Numbers.{given}
 use Rattle.wire.specs.declared.packets.PacketRead.{PacketRead}
 use Rattle.wire.specs.declared.packets.PacketRead.the-variants as PacketRead
 use Rattle.wire.specs.declared.packets.Number.{Number}
 use Rattle.wire.specs.declared.packets.Number.the-variants as Number
-use Rattle.wire.proofs.digits.Laws.{and-left, and-right, and-assoc, and-true, num-append, num-below, written, read}
-
-pub lt-or-le : (a b : ℕ) → (a < b) ⊎ (b ≤ a)
-lt-or-le a zero = inr zero-le
-lt-or-le zero (suc b) = inl (suc-le-suc zero-le)
-lt-or-le (suc a) (suc b) = ⊎-elim (λ p. inl (suc-le-suc p)) (λ q. inr (suc-le-suc q)) (lt-or-le a b)
+use Rattle.wire.proofs.digits.Laws.{lt-or-le, and-left, and-right, and-assoc, and-true, num-append, num-below}
 
 pub and-false : (t : Bool) → (t && false) ≡ false
 and-false true = refl

@@ -1,7 +1,7 @@
 -- Packets, there and back. A packet that was written is read as the same packet, whatever stands behind it in the row. A row that is read
 -- as a packet holds that packet's bytes and then dropped ones, with one exception: offset 0 may stand there with a minus.
 -- Assumes nothing.
-use Prim.Native.Nat.{ℕ, zero, suc, _+_, _-_, _≤_, _<_, zero-le, suc-le-suc}
+use Prim.Native.Nat.{ℕ, zero, suc, _+_, _-_, _≤_, _<_}
 use mathlib.Core.Path.{_≡_, refl, sym, _∙_, ap, ap₂, subst}
 use mathlib.Core.Bool.{Bool, true, false, _&&_, _||_, not}
 use mathlib.Core.List.{List, [], _∷_, _++_, append-assoc}
@@ -10,11 +10,11 @@ use native.Mathlib.Omega.{arith}
 use lib.Dec.{leb, ltb, eqb, lit<, lit≤, eqb·suc-zero}
 use lib.IntN.{ℤ, pos, negsuc, negℤ, natAbs}
 use lib.ListN.{length, take, drop, getD, replicate, length-append, length-drop, length-take}
-use lib.Seq.{take-append-seam, drop-append-seam, split-at}
-use borrow.Author.Tests.{lt-ltb, le-ltb, le-leb, lt-leb, ltb-true, leb-true, eq-eqb, ne-eqb, eqb-true, not-false}
+use lib.Seq.{take-append-seam, split-at}
+use borrow.Author.Tests.{lt-ltb, le-leb, ltb-true, leb-true, ne-eqb, eqb-true, not-false}
 use Rattle.wire.specs.Digits.{pick, digits, num, below}
 use Rattle.wire.specs.Numbers.{Line, _if_, given}
-use Rattle.wire.specs.Packets.{has, placeOf, bodyOf, frameLines, bodyLines, packetRefusal, readPacket, readFramed, readBody, readAs, kindsOf, ofKinds, meaning, means, fits, modeMeans, pairMeans, isDecimal, isOctal, isSign, isFormat, isModulation, isClock, isGenerator, allDecimal, values, ascii, signOf, signed, offsetOf, offsetFits, readNumber, readSigned, readPair, formatOf, modulationOf, clockOf, generatorOf, letterOfFormat, letterOfModulation, letterOfClock, letterOfGenerator, idOf, dataOf, framed, bytesOf}
+use Rattle.wire.specs.Packets.{has, placeOf, bodyOf, frameLines, bodyLines, packetRefusal, readPacket, readFramed, readBody, readAs, kindsOf, ofKinds, meaning, means, fits, pairMeans, isDecimal, isOctal, isSign, isFormat, isModulation, isClock, isGenerator, allDecimal, values, ascii, signOf, signed, offsetOf, readNumber, readSigned, readPair, formatOf, modulationOf, clockOf, generatorOf, letterOfFormat, letterOfModulation, letterOfClock, letterOfGenerator, idOf, dataOf, framed, bytesOf}
 use Rattle.wire.specs.declared.packets.Number.{Number}
 use Rattle.wire.specs.declared.packets.Number.the-variants as Number
 use Rattle.wire.specs.declared.packets.Format.{Format}
@@ -29,8 +29,8 @@ use Rattle.wire.specs.declared.packets.Packet.{Packet}
 use Rattle.wire.specs.declared.packets.Packet.the-variants as Packet
 use Rattle.wire.specs.declared.packets.PacketRead.{PacketRead}
 use Rattle.wire.specs.declared.packets.PacketRead.the-variants as PacketRead
-use Rattle.wire.proofs.digits.Laws.{and-left, and-right, digits-below, digits-length, written, read}
-use Rattle.wire.proofs.packets.Laws.{lt-or-le, place-has, place-front, framed-row, mode-body, clock-body, generator-body, format-body, offset-body, kinds-one, kinds-two, kinds-cons, kinds-decimal, signedRead, seven-small, values-length, values-below}
+use Rattle.wire.proofs.digits.Laws.{lt-or-le, and-left, and-right, digits-below, digits-length, written, read}
+use Rattle.wire.proofs.packets.Laws.{place-has, place-front, framed-row, mode-body, clock-body, generator-body, format-body, offset-body, kinds-one, kinds-two, kinds-cons, kinds-decimal, signedRead, seven-small, values-length, values-below}
 
 -- WRITTEN, THEN READ
 

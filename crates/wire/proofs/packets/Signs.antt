@@ -1,12 +1,12 @@
 -- Signed numbers of 32 bits: their sign, their size and their negatives. By cases on the sign. Assumes nothing.
-use Prim.Native.Nat.{ℕ, zero, suc, _+_, _≤_, _<_, _^_}
-use mathlib.Core.Path.{_≡_, refl, sym, _∙_, ap}
-use mathlib.Core.Bool.{Bool, true, false}
+use Prim.Native.Nat.{ℕ, zero, suc, _+_, _≤_, _<_}
+use mathlib.Core.Path.{_≡_, refl, _∙_, ap}
+use mathlib.Core.Bool.{true, false}
 use native.Mathlib.Omega.{arith}
 use borrow.Author.Tests.{ltb-true}
 use lib.Dec.{T, lit<}
 use lib.IntN.{ℤ, pos, negsuc, negℤ, natAbs, _-ℤ_, +ℤ-idl}
-use lib.Signed.{ltZ, nonNeg, mag}
+use lib.Signed.{ltZ, nonNeg}
 use mir.Syntax.{w32, w64}
 use mir.Val.{Fits, SFits, toZ, ofZ}
 use mir.ValLaws.{toZ-pos, toZ-ofZ}
@@ -15,17 +15,17 @@ use Rattle.wire.specs.Packets.{signOf}
 minus : (n : ℕ) → pos 0 -ℤ pos n ≡ negℤ (pos n)
 minus n = +ℤ-idl (negℤ (pos n))
 
-neg-fits : (n : ℕ) → n ≤ 9999999 → SFits w32 (negℤ (pos n))
+neg-fits : (n : ℕ) → n < 2147483648 → SFits w32 (negℤ (pos n))
 neg-fits zero h = record { sfits = lit< tt }
 neg-fits (suc n) h = record { sfits = omega arith }
 
-pub minus-fits : (n : ℕ) → n ≤ 9999999 → SFits w32 (pos 0 -ℤ pos n)
+pub minus-fits : (n : ℕ) → n < 2147483648 → SFits w32 (pos 0 -ℤ pos n)
 minus-fits n h = rw (minus n) (neg-fits n h)
 
-pub plain : (n : ℕ) → n ≤ 9999999 → toZ w32 n ≡ pos n
+pub plain : (n : ℕ) → n < 2147483648 → toZ w32 n ≡ pos n
 plain n h = toZ-pos w32 n (omega arith)
 
-pub negated : (n : ℕ) → n ≤ 9999999 → toZ w32 (ofZ w32 (pos 0 -ℤ toZ w32 n)) ≡ negℤ (pos n)
+pub negated : (n : ℕ) → n < 2147483648 → toZ w32 (ofZ w32 (pos 0 -ℤ toZ w32 n)) ≡ negℤ (pos n)
 negated n h = ap (λ (z : ℤ). toZ w32 (ofZ w32 (pos 0 -ℤ z))) (plain n h) ∙ toZ-ofZ w32 (pos 0 -ℤ pos n) (minus-fits n h) ∙ minus n
 
 -- a number of 32 bits, taken for one of 64

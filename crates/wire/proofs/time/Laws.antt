@@ -1,10 +1,8 @@
 -- A tick of day is its hour, minute, second and fraction, and these are its own. By division with remainder. Assumes nothing.
-use Prim.Native.Nat.{ℕ, _+_, _*_, _/_, _%_, _≤_, _<_}
-use mathlib.Core.Path.{_≡_, refl, sym, _∙_, ap}
+use Prim.Native.Nat.{ℕ, _+_, _*_, _/_, _%_, _<_}
+use mathlib.Core.Path.{_≡_, sym, _∙_, ap}
 use native.Mathlib.Nat.{div-div-eq-div-mul, div-add-mod'}
-use native.Mathlib.Omega.{arith}
 use lib.Arith.{digits-div, digits-mod}
-use lib.Dec.{lit<}
 use Rattle.wire.specs.Time.{hourOf, minuteOf, secondOf, fractionOf, tickAt}
 
 -- put together again, the parts of a tick of day are that tick

@@ -1,21 +1,21 @@
 -- What the code of time words rests on: a time's digits are ten pairs, and the fields of five words are pairs too. By the laws of digits.
 -- Assumes nothing.
-use Prim.Native.Nat.{ℕ, zero, suc, _+_, _*_, _/_, _%_, _^_, _≤_, _<_}
+use Prim.Native.Nat.{ℕ, zero, suc, _+_, _*_, _/_, _%_, _≤_, _<_}
 use mathlib.Core.Path.{_≡_, refl, sym, _∙_, ap, ap₂}
-use mathlib.Core.Bool.{Bool, true, false, _&&_, not}
+use mathlib.Core.Bool.{Bool, true, false, _&&_}
 use mathlib.Core.List.{List, [], _∷_, _++_}
-use native.Mathlib.Nat.{div-one, div-div-eq-div-mul, mod-eq-of-lt}
+use native.Mathlib.Nat.{div-one, div-div-eq-div-mul}
 use native.Mathlib.Omega.{arith}
-use lib.Dec.{leb, ltb, eqb, lit<, lit≤, leb·suc-suc, leb·suc-zero, eqb·suc-zero}
+use lib.Dec.{leb, ltb, eqb, lit<, leb·suc-suc, leb·suc-zero, eqb·suc-zero}
 use lib.ListN.{length, take, drop, getD}
 use lib.Seq.{ext-getD}
-use borrow.Author.Tests.{lt-ltb, le-ltb, ltb-true, ltb-false, leb-true}
-use Rattle.wire.specs.Digits.{pick, digits, num, below, packed, unpacked, TwoTaken}
+use borrow.Author.Tests.{ltb-true, ltb-false, leb-true}
+use Rattle.wire.specs.Digits.{digits, num, below, packed, unpacked, TwoTaken}
 use Rattle.wire.specs.declared.digits.Split.{Split}
 use Rattle.wire.specs.Time.{ticksOfDay, hourOf, minuteOf, secondOf, fractionOf, tickAt}
-use Rattle.wire.specs.Words.{timeDigits, wordsOf, writable, decimal, field, dayIn, hourIn, minuteIn, secondIn, fractionIn, tickIn, inRange, digitsRefusal, readDigits, timeRead, readWords}
+use Rattle.wire.specs.Words.{timeDigits, wordsOf, writable, decimal, field, dayIn, hourIn, minuteIn, secondIn, fractionIn, tickIn, inRange, digitsRefusal, readDigits, timeRead}
 use Rattle.wire.specs.Numbers.{given}
-use Rattle.wire.proofs.digits.Laws.{and-left, and-right, and-assoc, and-true, below-at, below-both, mod-div, mod-mod-mul, digits-above, digits-split, digits-mod-pow, num-append, written}
+use Rattle.wire.proofs.digits.Laws.{and-left, and-right, and-assoc, and-true, below-at, below-both, mod-div, mod-mod-mul, digits-split, digits-mod-pow, num-append, written}
 
 -- what `writable` tests
 pub writable-day : (day tick : ℕ) → writable day tick ≡ true → (1 ≤ day) × (day ≤ 366)

@@ -1,12 +1,12 @@
 -- Time words, there and back. Words that were written are read as the same day and tick; words that are read are those that are written
 -- for what was read. So no two times of a year share words, and nothing that reads has a second meaning. By the laws of digits.
 -- Assumes nothing.
-use Prim.Native.Nat.{ℕ, zero, suc, _+_, _*_, _/_, _%_, _^_, _≤_, _<_}
-use mathlib.Core.Path.{_≡_, refl, sym, _∙_, ap, ap₂}
+use Prim.Native.Nat.{ℕ, zero, _+_, _*_, _/_, _%_, _≤_, _<_}
+use mathlib.Core.Path.{_≡_, refl, sym, _∙_, ap}
 use mathlib.Core.Bool.{Bool, true, false, _&&_, not}
 use mathlib.Core.List.{List, [], _∷_, _++_}
 use native.Mathlib.Omega.{arith}
-use lib.Dec.{leb, ltb, eqb, lit<, lit≤}
+use lib.Dec.{leb, eqb, lit<, lit≤}
 use lib.ListN.{length, take, drop, replicate, length-drop}
 use lib.Seq.{length-take-le}
 use borrow.Author.Tests.{lt-ltb, le-leb, leb-true, eqb-true}
@@ -15,7 +15,7 @@ use Rattle.wire.specs.Digits.{pick, digits, num, below, packed, unpacked
 use Rattle.wire.specs.Numbers.{_if_, given}
 use Rattle.wire.specs.Time.{ticksOfDay, hourOf, minuteOf, secondOf, fractionOf, tickAt}
 use Rattle.wire.specs.Words.{timeDigits, wordsOf, writable, decimal, field, dayIn, hourIn, minuteIn, secondIn, fractionIn, tickIn, inRange, digitsRefusal, readDigits, timeRead, readWords, zeroWords}
-use Rattle.wire.proofs.digits.Laws.{and-left, and-right, below-both, below-more, below-take, zeros, cut, digits-below, written, read-part, part-below, unpack-packed, pack-unpacked, unpacked-length}
+use Rattle.wire.proofs.digits.Laws.{and-left, and-right, below-both, below-more, zeros, cut, digits-below, written, read-part, part-below, unpack-packed, pack-unpacked, unpacked-length}
 use Rattle.wire.proofs.time.Laws.{parts, hour-at, minute-at, second-at, fraction-at}
 use Rattle.wire.proofs.words.Laws.{writable-day, writable-tick, read-done}
 

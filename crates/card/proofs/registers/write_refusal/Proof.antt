@@ -1,6 +1,6 @@
 -- `registers::write_refusal` meets its contract: each return is decided by the tests that led there.
 -- Assumes nothing.
-use borrow.Author.Tests.{lt-ltb, le-ltb, le-leb, eq-eqb, ne-eqb, not-true, not-false}
+use borrow.Author.Tests.{lt-ltb, eq-eqb, ne-eqb, not-true, not-false}
 use Rattle.wire.specs.Numbers.{given}
 use Rattle.card.specs.Registers.{writeRefusal}
 use Rattle.card.proofs.registers.Laws.{write-2, write-3, write-0}

@@ -1,6 +1,6 @@
 -- `packets::put_offset` meets its contract: stores from the front on, or none.
 -- Assumes nothing.
-use mathlib.Core.List.{[], _∷_}
+use mathlib.Core.List.{_∷_}
 use native.Mathlib.Nat.{div-one}
 use native.Mathlib.Omega.{arith}
 use lib.ListN.{length-set}

@@ -2,6 +2,7 @@
 -- Assumes nothing.
 use borrow.Author.Tests.{ne-eqb}
 use Rattle.wire.specs.Packets.{readSigned}
+use native.Mathlib.Omega.{arith}
 use Rattle.wire.proofs.packets.Signs.{plain, negated, minus-fits}
 use borrow.Author.Needs.{needs}
 use Rattle.wire.proofs.packets.with_sign.Statement.{statement}
@@ -14,15 +15,15 @@ cast-t6 : tie.Need-cast-t6
 cast-t6 c = search needs
 
 sub-t7 : tie.Need-sub-t7
-sub-t7 c = rw (plain (c .before .args .n) (c .before .pre)) (minus-fits (c .before .args .n) (c .before .pre))
+sub-t7 c = rw (plain (c .before .args .n) (omega (arith, c .before .pre))) (minus-fits (c .before .args .n) (omega (arith, c .before .pre)))
 
 returns : tie.Need-returns
 unfolding readSigned
-returns c = simp (c .match .keys1, plain (c .before .args .n) (c .before .pre))
+returns c = simp (c .match .keys1, plain (c .before .args .n) (omega (arith, c .before .pre)))
 
 returns-2 : tie.Need-returns-2
 unfolding readSigned
-returns-2 c = simp (c .match .keys2, negated (c .before .args .n) (c .before .pre))
+returns-2 c = simp (c .match .keys2, negated (c .before .args .n) (omega (arith, c .before .pre)))
 
 returns-3 : tie.Need-returns-3
 unfolding readSigned
