@@ -1,0 +1,4 @@
+pub mod Laws
+pub mod Fresh
+pub mod Going
+pub mod Parts

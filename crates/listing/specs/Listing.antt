@@ -1,0 +1,189 @@
+-- The bench's listing: standard input cut into pieces, and for each piece its number and the answer of a fresh card of its own.
+use Prim.Native.Nat.{ℕ, zero, suc, _+_, _-_, _≤_, _<_, _^_}
+use mathlib.Core.Path.{_≡_}
+use mathlib.Core.Bool.{Bool, true, false, _&&_, _||_}
+use mathlib.Core.List.{List, [], _∷_, _++_}
+use lib.ListN.{length, take, drop, replicate}
+use lib.Dec.{leb, ltb, eqb}
+use Rattle.wire.specs.Digits.{pick, digits, below}
+use Rattle.wire.specs.Packets.{ascii}
+use Rattle.card.specs.declared.card.Queue.{Queue}
+use Rattle.card.specs.declared.card.Card.{Card}
+use Rattle.card.specs.Registers.{writeRegister}
+use Rattle.card.specs.Reset.{freshCard}
+use Rattle.listing.specs.declared.feeding.Bench.{Bench}
+use Rattle.listing.specs.declared.feeding.Fed.{Fed}
+
+-- CUTTING
+
+-- a byte ends the piece of which these bytes are held: it is 0x17, or the 41st
+unfoldable pub ends : List ℕ → ℕ → Bool
+ends held b = eqb b 0x17 || eqb (length held) 40
+
+-- the pieces that an input finishes behind the bytes held
+unfoldable pub pieces : List ℕ → List ℕ → List (List ℕ)
+pieces held [] = []
+pieces held (b ∷ bs) = pick (ends held b) ((held ++ (b ∷ [])) ∷ pieces [] bs) (pieces (held ++ (b ∷ [])) bs)
+
+-- and what is held then
+unfoldable pub rest : List ℕ → List ℕ → List ℕ
+rest held [] = held
+rest held (b ∷ bs) = pick (ends held b) (rest [] bs) (rest (held ++ (b ∷ [])) bs)
+
+-- the last rest is a piece if it is not empty
+unfoldable pub lastPiece : List ℕ → List (List ℕ)
+lastPiece [] = []
+lastPiece (b ∷ bs) = (b ∷ bs) ∷ []
+
+-- ANSWERS
+
+-- a card when bytes were written to FIFO, one by one
+unfoldable pub fed : Card → List ℕ → Card
+fed c [] = c
+fed c (b ∷ bs) = fed (writeRegister c 13 b .card) bs
+
+-- what writing 0x80 to ACK answers, on a fresh card with a piece in its queue
+unfoldable pub answerOf : List ℕ → ℕ
+answerOf piece = writeRegister (fed freshCard piece) 12 0x80 .number
+
+-- LINES
+
+-- digits without the zeros in front; the last digit stays
+unfoldable pub trimmed : List ℕ → List ℕ
+trimmed [] = []
+trimmed (d ∷ []) = d ∷ []
+trimmed (d ∷ e ∷ ds) = pick (eqb d 0) (trimmed (e ∷ ds)) (d ∷ e ∷ ds)
+
+-- a number below 10 ^ 20 in decimal
+unfoldable pub decimal : ℕ → List ℕ
+decimal n = ascii (trimmed (digits 10 20 n))
+
+-- a piece's number, a space, its answer, a newline
+unfoldable pub line : ℕ → ℕ → List ℕ
+line n answer = decimal n ++ (0x20 ∷ (decimal answer ++ (0x0A ∷ [])))
+
+-- the lines of pieces, numbered from n on
+unfoldable pub lines : ℕ → List (List ℕ) → List ℕ
+lines n [] = []
+lines n (p ∷ ps) = line n (answerOf p) ++ lines (suc n) ps
+
+-- THE LISTING
+
+-- `PKT ANS` and a newline
+abbrev pub header : List ℕ
+header = 0x50 ∷ 0x4B ∷ 0x54 ∷ 0x20 ∷ 0x41 ∷ 0x4E ∷ 0x53 ∷ 0x0A ∷ []
+
+unfoldable pub listing : List ℕ → List ℕ
+listing input = header ++ lines 1 (pieces [] input ++ lastPiece (rest [] input))
+
+-- THE STATE BETWEEN TWO PARTS OF AN INPUT
+
+-- a queue that holds these bytes, with zeros behind them
+abbrev pub queueOf : List ℕ → Queue
+queueOf held = record { bytes = held ++ replicate (64 - length held) 0; fill = length held }
+
+-- the bytes held, and the number of the piece that they begin
+abbrev pub benchOf : List ℕ → ℕ → Bench
+benchOf held n = record { queue = queueOf held; number = n }
+
+abbrev pub heldIn : Queue → List ℕ
+heldIn q = take (q .fill) (q .bytes)
+
+-- FEEDING
+
+-- a line has at most 25 bytes; the number 2 ^ 64 - 1 is not given, so that numbers never wrap
+unfoldable pub goesOn : ℕ → ℕ → Bool
+goesOn n room = ltb n 18446744073709551615 && leb 25 room
+
+-- how many bytes of an input are taken: each while there is room for a line
+unfoldable pub takes : List ℕ → ℕ → ℕ → List ℕ → ℕ
+takes held n room [] = 0
+takes held n room (b ∷ bs) =
+    pick (goesOn n room)
+    (suc (pick (ends held b) (takes [] (suc n) (room - length (line n (answerOf (held ++ (b ∷ []))))) bs) (takes (held ++ (b ∷ [])) n room bs)))
+    0
+
+-- a text at a place of a row, and all else as it was
+abbrev pub placed : List ℕ → ℕ → List ℕ → List ℕ
+placed row at text = take at row ++ (text ++ drop (at + length text) row)
+
+-- the part of an input that is taken
+abbrev pub partOf : Bench → List ℕ → ℕ → List ℕ
+partOf b input room = take (takes (heldIn (b .queue)) (b .number) room input) input
+
+-- the lines of the pieces that a part finishes
+abbrev pub linesOf : Bench → List ℕ → List ℕ
+linesOf b part = lines (b .number) (pieces (heldIn (b .queue)) part)
+
+abbrev pub fedTo : Bench → List ℕ → Fed
+fedTo b part =
+    record {
+      bench = benchOf (rest (heldIn (b .queue)) part) (b .number + length (pieces (heldIn (b .queue)) part));
+      taken = length part;
+      written = length (linesOf b part);
+    }
+
+-- what feeding an input answers, with so much room; nothing is taken by a bench that holds more than a piece can
+unfoldable pub feed : Bench → List ℕ → ℕ → Fed
+feed b input room = pick (leb (b .queue .fill) 40) (fedTo b (partOf b input room)) (record { bench = b; taken = 0; written = 0 })
+
+-- the row afterwards: the lines at its front, and every later place as it was
+unfoldable pub rowFed : Bench → List ℕ → List ℕ → List ℕ
+rowFed b input row = pick (leb (b .queue .fill) 40) (placed row 0 (linesOf b (partOf b input (length row)))) row
+
+-- the promise of feeding; that counts are within the input and the row follows, and is said so that a caller need not show it
+pub record Feeding (b : Bench) (input before after : List ℕ) (r : Fed) : Type 0 where
+  pub answer : r ≡ feed b input (length before)
+  pub row : after ≡ rowFed b input before
+  pub taken : r .taken ≤ length input
+  pub written : r .written ≤ length before
+
+-- the line of the last rest, if there is one and room for it
+unfoldable pub lastLine : Bench → ℕ → List ℕ
+lastLine b room = pick (leb (b .queue .fill) 40 && goesOn (b .number) room) (lines (b .number) (lastPiece (heldIn (b .queue)))) []
+
+-- the promise of finishing
+pub record Finishing (b : Bench) (before after : List ℕ) (r : ℕ) : Type 0 where
+  pub answer : r ≡ length (lastLine b (length before))
+  pub row : after ≡ placed before 0 (lastLine b (length before))
+  pub written : r ≤ length before
+
+-- all that is written when an input comes in parts
+unfoldable pub textOver : List ℕ → ℕ → List (List ℕ) → List ℕ
+textOver held n [] = lines n (lastPiece held)
+textOver held n (part ∷ parts) = lines n (pieces held part) ++ textOver (rest held part) (n + length (pieces held part)) parts
+
+unfoldable pub joinedParts : List (List ℕ) → List ℕ
+joinedParts [] = []
+joinedParts (part ∷ parts) = part ++ joinedParts parts
+
+-- WITHIN THE CRATE
+
+-- k is how many decimal digits n has
+pub record Places (n k : ℕ) : Type 0 where
+  pub some : 0 < k
+  pub few : k ≤ 20
+  pub holds : n < 10 ^ k
+  pub none-less : (j : ℕ) → k ≡ suc (suc j) → 10 ^ suc j ≤ n
+
+-- a text was put at a place, and r is the place behind it
+pub record Put (before : List ℕ) (at : ℕ) (text after : List ℕ) (r : ℕ) : Type 0 where
+  pub row : after ≡ placed before at text
+  pub behind : r ≡ at + length text
+
+-- a line was put at a place, and it has at most 25 bytes
+pub record PutLine (before : List ℕ) (at n answer : ℕ) (after : List ℕ) (r : ℕ) : Type 0 where
+  pub put : Put before at (line n answer) after r
+  pub short : r ≤ at + 25
+
+-- a card with the bytes of a queue written to it, one by one
+pub record Refilled (q : Queue) (c : Card) : Type 0 where
+  pub card : c ≡ fed freshCard (heldIn q)
+  pub bytes : below 256 (heldIn q) ≡ true
+  pub count : length (heldIn q) ≡ q .fill
+
+-- a part was taken, and the lines of the pieces that it finishes stand in the row
+pub record Feeds (b : Bench) (input before after : List ℕ) (r : Fed) : Type 0 where
+  pub answer : r ≡ fedTo b (partOf b input (length before))
+  pub row : after ≡ placed before 0 (linesOf b (partOf b input (length before)))
+  pub written : r .written ≤ length before
