@@ -86,7 +86,7 @@ module _ (held : List ℕ) (n room b : ℕ) (bs : List ℕ) where
 
 -- one byte more
 module _ (held : List ℕ) (n : ℕ) (input before now : List ℕ) (c d : Card) (k m w i b : ℕ) (g : Going held n input before now c k m w i) (l : i < length input)
-  (eb : b ≡ getD input i 0) (small : b < 256) (go : goesOn m (length now - w) ≡ true) (last : Bool) (el : last ≡ (eqb b 0x17 || eqb k 40)) (ed : d ≡ writeRegister c 13 b .card) where
+    (eb : b ≡ getD input i 0) (small : b < 256) (go : goesOn m (length now - w) ≡ true) (last : Bool) (el : last ≡ (eqb b 0x17 || eqb k 40)) (ed : d ≡ writeRegister c 13 b .card) where
   more : take (i + 1) input ≡ take i input ++ (b ∷ [])
   more = rw (add-one i, eb) (take-suc input i 0 l)
 
@@ -143,9 +143,9 @@ module _ (held : List ℕ) (n : ℕ) (input before now : List ℕ) (c d : Card) 
       let text = line m (answerOf piece) in
       let ea : line m (writeRegister d 12 0x80 .number) ≡ text = ap (λ (x : Card). line m (writeRegister x 12 0x80 .number)) joined in
       let t : lines n (pieces held (take (i + 1) input)) ≡ lines n (pieces held (take i input)) ++ text =
-          ap (lines n) p
-          ∙ lines-append n (pieces held (take i input)) (piece ∷ [])
-          ∙ ap (λ (l : List ℕ). lines n (pieces held (take i input)) ++ l) (append-nil (line (n + length (pieces held (take i input))) (answerOf piece)) ∙ ap (λ (x : ℕ). line x (answerOf piece)) (sym (g .number))) in
+      ap (lines n) p
+      ∙ lines-append n (pieces held (take i input)) (piece ∷ [])
+      ∙ ap (λ (l : List ℕ). lines n (pieces held (take i input)) ++ l) (append-nil (line (n + length (pieces held (take i input))) (answerOf piece)) ∙ ap (λ (x : ℕ). line x (answerOf piece)) (sym (g .number))) in
       let room : 25 ≤ length before - w = goes-room m (length before - w) goes in
       let behind : v ≡ w + length text = put .put .behind ∙ ap (λ (l : List ℕ). w + length l) ea in
       record {
@@ -253,7 +253,7 @@ last-some b before after c r z l g f p =
     let held = heldIn (b .queue) in
     let e : lastPiece held ≡ held ∷ [] = one-piece held (λ q. z (sym (f .count) ∙ q)) in
     let t : lastLine b (length before) ≡ line (b .number) (writeRegister c 12 0x80 .number) =
-        simp (le-leb (b .queue .fill) 40 l, g, e, append-nil, f .card) in
+    simp (le-leb (b .queue .fill) 40 l, g, e, append-nil, f .card) in
     record {
       answer = rw t (let q : r ≡ length (line (b .number) (writeRegister c 12 0x80 .number)) = omega (arith, p .put .behind) in q);
       row = rw t (p .put .row);

@@ -149,10 +149,10 @@ module _ (row : List ℕ) (at : ℕ) where
       let whole : placed row at s ≡ front ++ behind = sym (append-assoc (take at row) s behind) in
       let first : take (at + length s) (placed row at s) ≡ front = ap (take (at + length s)) whole ∙ take-at front behind (at + length s) size in
       let later : drop (at + length s + length t) (placed row at s) ≡ drop (at + length (s ++ t)) row =
-          sym (drop-drop (length t) (at + length s) (placed row at s))
-          ∙ ap (drop (length t)) (ap (drop (at + length s)) whole ∙ drop-at front behind (at + length s) size)
-          ∙ drop-drop (length t) (at + length s) row
-          ∙ ap (λ (x : ℕ). drop x row) (let e : at + length s + length t ≡ at + length (s ++ t) = omega (arith, length-append s t) in e) in
+      sym (drop-drop (length t) (at + length s) (placed row at s))
+      ∙ ap (drop (length t)) (ap (drop (at + length s)) whole ∙ drop-at front behind (at + length s) size)
+      ∙ drop-drop (length t) (at + length s) row
+      ∙ ap (λ (x : ℕ). drop x row) (let e : at + length s + length t ≡ at + length (s ++ t) = omega (arith, length-append s t) in e) in
       ap₂ (λ (a b : List ℕ). a ++ (t ++ b)) first later
       ∙ append-assoc (take at row) s (t ++ drop (at + length (s ++ t)) row)
       ∙ ap (λ (l : List ℕ). take at row ++ l) (sym (append-assoc s t (drop (at + length (s ++ t)) row)))
@@ -190,7 +190,7 @@ spelled-more n at k before now left i s p =
     let l : m < length before = omega (arith, s .sum, s .fits) in
     let text = ascii (digits 10 (s .done) n) ++ drop (at + k) before in
     let split : take (at + i) before ++ text ≡ take m before ++ (getD before m 0 ∷ text) =
-        ap (λ (x : ℕ). take x before ++ text) e ∙ ap (λ (x : List ℕ). x ++ text) (take-suc before m 0 l) ∙ append-assoc (take m before) (getD before m 0 ∷ []) text in
+    ap (λ (x : ℕ). take x before ++ text) e ∙ ap (λ (x : List ℕ). x ++ text) (take-suc before m 0 l) ∙ append-assoc (take m before) (getD before m 0 ∷ []) text in
     record {
       done = suc (s .done);
       sum = omega (arith, s .sum);
@@ -237,8 +237,8 @@ put-line a b c d e at p q r s n answer h l w x y z =
     let two = put-twice a b c at p q (decimal n) (0x20 ∷ []) w x (omega arith) in
     let three = put-twice a c d at q r (decimal n ++ (0x20 ∷ [])) (decimal answer) two y (omega (arith, length-append (decimal n) (0x20 ∷ []))) in
     let four =
-        put-twice a d e at r s ((decimal n ++ (0x20 ∷ [])) ++ decimal answer) (0x0A ∷ []) three z
-        (omega (arith, length-append (decimal n ++ (0x20 ∷ [])) (decimal answer), length-append (decimal n) (0x20 ∷ []))) in
+    put-twice a d e at r s ((decimal n ++ (0x20 ∷ [])) ++ decimal answer) (0x0A ∷ []) three z
+    (omega (arith, length-append (decimal n ++ (0x20 ∷ [])) (decimal answer), length-append (decimal n) (0x20 ∷ []))) in
     record {
       put = rw (append-assoc (decimal n ++ (0x20 ∷ [])) (decimal answer) (0x0A ∷ []), append-assoc (decimal n) (0x20 ∷ []) (decimal answer ++ (0x0A ∷ []))) at four;
       short = omega (arith, w .behind, x .behind, y .behind, z .behind);

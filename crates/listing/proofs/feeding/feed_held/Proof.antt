@@ -81,8 +81,8 @@ loop-less c = omega arith
 loop-again : tie.Need-loop-again Inv-loop μ-loop
 loop-again c =
     λ bytes h.
-      going-ended bytes _ _ _ _ _ _ _ _ _ _ _ (c .before .before .before .before .before .before .before .before .before .before .before .loop .inv bytes h) (c .before .before .before .before .before .before .before .before .before .before .loop-test .taken) refl (omega (arith, c .before .before .before .before .before .before .before .shared-slice-known2 .given (c .before .before .before .before .before .before .before .before .before .before .before .loop .i)))
-      (sym (c .before .before .before .before .before .before .before .before .before .goes-on .ensures) ∙ not-false _ (c .before .before .before .before .before .before .before .before .if1 .left)) _ (c .before .before .before .before .before .before .is-last .ensures) (c .before .before .before .before .before .write-byte .ensures) (c .before .before .before .before .if2 .taken) _ (c .before .before .before .before .before .before .before .before .before .before .before .before .before .before .fresh-card .ensures) _ _ (c .before .before .put-answer .ensures)
+    going-ended bytes _ _ _ _ _ _ _ _ _ _ _ (c .before .before .before .before .before .before .before .before .before .before .before .loop .inv bytes h) (c .before .before .before .before .before .before .before .before .before .before .loop-test .taken) refl (omega (arith, c .before .before .before .before .before .before .before .shared-slice-known2 .given (c .before .before .before .before .before .before .before .before .before .before .before .loop .i)))
+    (sym (c .before .before .before .before .before .before .before .before .before .goes-on .ensures) ∙ not-false _ (c .before .before .before .before .before .before .before .before .if1 .left)) _ (c .before .before .before .before .before .before .is-last .ensures) (c .before .before .before .before .before .write-byte .ensures) (c .before .before .before .before .if2 .taken) _ (c .before .before .before .before .before .before .before .before .before .before .before .before .before .before .fresh-card .ensures) _ _ (c .before .before .put-answer .ensures)
 
 loop-less-2 : tie.Need-loop-less-2 Inv-loop μ-loop
 loop-less-2 c = omega arith
@@ -90,8 +90,8 @@ loop-less-2 c = omega arith
 loop-again-2 : tie.Need-loop-again-2 Inv-loop μ-loop
 loop-again-2 c =
     λ bytes h.
-      going-held bytes _ _ _ _ _ _ _ _ _ _ _ (c .before .before .before .before .before .before .before .loop .inv bytes h) (c .before .before .before .before .before .before .loop-test .taken) refl (omega (arith, c .before .before .before .shared-slice-known2 .given (c .before .before .before .before .before .before .before .loop .i)))
-      (sym (c .before .before .before .before .before .goes-on .ensures) ∙ not-false _ (c .before .before .before .before .if1 .left)) _ (c .before .before .is-last .ensures) (c .before .write-byte .ensures) (c .if2 .left)
+    going-held bytes _ _ _ _ _ _ _ _ _ _ _ (c .before .before .before .before .before .before .before .loop .inv bytes h) (c .before .before .before .before .before .before .loop-test .taken) refl (omega (arith, c .before .before .before .shared-slice-known2 .given (c .before .before .before .before .before .before .before .loop .i)))
+    (sym (c .before .before .before .before .before .goes-on .ensures) ∙ not-false _ (c .before .before .before .before .if1 .left)) _ (c .before .before .is-last .ensures) (c .before .write-byte .ensures) (c .if2 .left)
 
 stop-requires-2 : tie.Need-stop-requires-2 Inv-loop μ-loop
 stop-requires-2 c κs = tt

@@ -1,0 +1,4 @@
+// The bench program.
+fn main() {
+    shell::bench();
+}
