@@ -18,6 +18,12 @@ def packet(text):
     return b"\x01" + text + b"\x17"
 
 
+def sample():
+    """What examples/packets.bin has: packets taken and refused, bytes that are none, and one cut short."""
+    good = b"".join(packet(text) for text in (b"A1", b"G+0025000", b"HBM", b"HAM", b"IE", b"KH", b"A4", b"Z"))
+    return good + b"noise\x17" + b"\x01A0"
+
+
 def borders():
     """Around 41 bytes: the 0x17 behind 40 others, behind 41, none at all, and a rest of 40."""
     forty = b"\x01A" + b"0" * 38
@@ -30,7 +36,7 @@ def ids():
 
 
 def guide():
-    """The user's guide's worked packets: A, B and G, its H without a modulation, and P."""
+    """The user's guide's worked packets, as it sends them: B and P are no ids of ours, and its H has no modulation."""
     return b"".join(packet(text) for text in (b"A1", b"B123112233", b"A0", b"HB", b"G+0025000", b"P04"))
 
 
@@ -54,6 +60,7 @@ def noise():
 
 VECTORS = {
     "bench": b"\x01A0\x17\x01Z\x17",
+    "bench_sample": sample(),
     "bench_empty": b"",
     "bench_rest": b"\x01A0\x17\x01A0",
     "bench_borders": borders(),

@@ -1,0 +1,4 @@
+// The bench, on the input beside it.
+fn main() {
+    shell::bench();
+}
