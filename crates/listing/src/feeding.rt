@@ -13,10 +13,11 @@ ghost use Rattle.card.specs.Registers.{writeRegister};
 ghost use Rattle.listing.specs.Listing.{goesOn, benchOf, PutLine, Refilled, Feeds, Feeding, Finishing};
 ghost use mathlib.Core.List.{[]};
 
-// The bytes held of a piece that is not at its end, as a card's queue, and the piece's number.
+// The bytes held of a piece that is not at its end, as a card's queue, and the piece's number. No other crate can reach them, so no bench is handed in that
+// no call here has left.
 pub struct Bench {
-    pub queue: Queue,
-    pub number: u64,
+    queue: Queue,
+    number: u64,
 }
 
 // What feeding answers: the bench afterwards, the bytes taken, and the bytes written to the row.

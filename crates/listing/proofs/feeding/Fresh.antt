@@ -2,16 +2,16 @@
 -- By induction on the bytes, with the card's own laws of lawful cards. Assumes nothing.
 use Prim.Native.Nat.{ℕ, zero, suc, _+_, _-_, _%_, _≤_, _<_}
 use mathlib.Core.Path.{_≡_, refl, sym, ap, ap₂, _∙_}
-use mathlib.Core.Bool.{Bool, true, false, _&&_}
+use mathlib.Core.Bool.{true}
 use mathlib.Core.List.{List, [], _∷_, _++_, append-assoc, append-nil}
 use native.Mathlib.Nat.{mod-eq-of-lt}
 use native.Mathlib.Numerals.{add-one}
 use native.Mathlib.Omega.{arith}
-use lib.Dec.{ltb, eqb, leb}
-use lib.ListN.{length, take, drop, getD, set, replicate, length-append}
+use lib.Dec.{ltb}
+use lib.ListN.{length, take, getD, set, replicate, length-append}
 use lib.Seq.{take-suc, drop-at, set-at, length-take-le}
 use borrow.Author.Tests.{lt-ltb, ltb-true, le-leb, ne-eqb}
-use Rattle.wire.specs.Digits.{pick, below}
+use Rattle.wire.specs.Digits.{below}
 use Rattle.wire.specs.Words.{zeroWords}
 use Rattle.wire.specs.Packets.{modeMeans}
 use Rattle.wire.proofs.digits.Laws.{and-left, and-right, below-append}
@@ -21,11 +21,11 @@ use Rattle.card.specs.Cards.{withQueue}
 use Rattle.card.specs.Time.{timeLawful, daysIn}
 use Rattle.card.specs.Falling.{strobeLawful, periodicLawful}
 use Rattle.card.specs.Lawful.{lawful, registersLawful, settingsLawful, latchLawful, queueLawful}
-use Rattle.card.specs.Registers.{writeRefusal, written, writeRegister}
+use Rattle.card.specs.Registers.{written, writeRegister}
 use Rattle.card.specs.Reset.{freshCard}
 use Rattle.card.proofs.lawful.Laws.{whole}
 use Rattle.card.proofs.registers.Laws.{write-0}
-use Rattle.listing.specs.Listing.{fed, queueOf, heldIn, Refilled}
+use Rattle.listing.specs.Listing.{fed, queueOf, Refilled}
 
 -- a fresh card with bytes in its queue
 abbrev pub holding : List ℕ → Card

@@ -1,19 +1,15 @@
 -- THE LAW OF THE BENCH: in whatever parts an input comes, and however much room each call has, what is written is the listing of the whole input.
 -- By induction on the parts, from the laws of cutting. Assumes nothing.
-use Prim.Native.Nat.{ℕ, zero, suc, _+_, _-_, _≤_, _<_}
+use Prim.Native.Nat.{ℕ, _+_, _-_, _≤_, _<_}
 use mathlib.Core.Path.{_≡_, refl, sym, ap, ap₂, _∙_}
-use mathlib.Core.Bool.{Bool, true, false, _&&_}
-use mathlib.Core.List.{List, [], _∷_, _++_, append-assoc, append-nil}
+use mathlib.Core.Bool.{true}
+use mathlib.Core.List.{List, [], _∷_, _++_, append-assoc}
 use native.Mathlib.Omega.{arith}
-use lib.Dec.{leb, ltb}
-use lib.ListN.{length, take, drop, replicate, length-append}
+use lib.ListN.{length, take, replicate}
 use lib.Seq.{take-at}
 use borrow.Author.Tests.{le-leb}
-use Rattle.wire.specs.Digits.{pick}
-use Rattle.listing.specs.declared.feeding.Bench.{Bench}
-use Rattle.listing.specs.declared.feeding.Fed.{Fed}
-use Rattle.listing.specs.Listing.{ends, pieces, rest, lastPiece, answerOf, line, lines, header, listing, queueOf, benchOf, heldIn, goesOn, takes, partOf, linesOf, fedTo, feed, lastLine, textOver, joinedParts}
-use Rattle.listing.proofs.feeding.Laws.{rest-append, pieces-append, lines-append, rest-short}
+use Rattle.listing.specs.Listing.{pieces, rest, lastPiece, line, lines, header, listing, queueOf, benchOf, heldIn, goesOn, takes, linesOf, fedTo, feed, textOver, joinedParts}
+use Rattle.listing.proofs.feeding.Laws.{rest-append, pieces-append, lines-append}
 
 -- the pieces of an input, behind what is held
 module _ (n : ℕ) (held xs ys : List ℕ) where

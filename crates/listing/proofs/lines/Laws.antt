@@ -11,7 +11,7 @@ use native.Mathlib.Omega.{arith}
 use lib.Dec.{eqb}
 use lib.ListN.{length, take, drop, getD, set, length-append, length-drop, take-append-drop}
 use lib.Seq.{take-suc, set-at, take-at, drop-at, drop-drop, length-take-le, set-split}
-use borrow.Author.Tests.{eq-eqb, ne-eqb}
+use borrow.Author.Tests.{ne-eqb}
 use Rattle.wire.specs.Digits.{pick, digits}
 use Rattle.wire.specs.Packets.{ascii}
 use Rattle.wire.proofs.digits.Laws.{digits-length}

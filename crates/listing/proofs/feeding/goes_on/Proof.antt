@@ -2,7 +2,7 @@
 -- Assumes nothing.
 use native.Mathlib.Omega.{arith}
 use lib.Arith.{lt-of-le-ne}
-use borrow.Author.Tests.{le-ltb, lt-ltb}
+use borrow.Author.Tests.{lt-ltb}
 use Rattle.listing.specs.Listing.{goesOn}
 use Rattle.listing.proofs.feeding.goes_on.Statement.{statement}
 use Rattle.listing.proofs.feeding.goes_on.Tie as tie

@@ -1,9 +1,9 @@
 -- `feeding::refill` meets its contract. The invariant: the card is filled with the first bytes of the queue. The measure is what is left of them.
 -- Assumes nothing.
-use Prim.Native.Nat.{_-_, _≤_, _<_}
+use Prim.Native.Nat.{_-_, _≤_}
 use mathlib.Core.Path.{_≡_}
 use native.Mathlib.Omega.{arith}
-use lib.ListN.{length, getD}
+use lib.ListN.{length}
 use borrow.Author.Needs.{needs}
 use Rattle.listing.proofs.feeding.Fresh.{Filled, filled-none, filled-more, filled-all}
 use Rattle.listing.proofs.feeding.refill.Statement.{statement}
