@@ -1,7 +1,7 @@
 -- 18: what a card must be for any call to take it. A list of ranges; how a card came to be is not asked.
-use Prim.Native.Nat.{ℕ}
+use Prim.Native.Nat.{ℕ, _+_}
 use mathlib.Core.Bool.{Bool, _&&_, _||_}
-use mathlib.Core.List.{List}
+use mathlib.Core.List.{List, [], _∷_}
 use lib.ListN.{drop}
 use lib.Dec.{leb, ltb, eqb}
 use Rattle.wire.specs.Digits.{below}
@@ -16,6 +16,11 @@ use Rattle.card.specs.Falling.{strobeLawful, periodicLawful}
 -- latch words: all zero, or readable
 unfoldable pub latchLawful : List ℕ → Bool
 latchLawful ws = below 1 ws || eqb (readWords ws .number) 0
+
+-- what bytes add up to
+unfoldable pub total : List ℕ → ℕ
+total [] = 0
+total (b ∷ bs) = b + total bs
 
 -- control bits 0 and 1, mask and pending bits 0 to 4, level bits 0 to 2
 unfoldable pub registersLawful : ℕ → ℕ → ℕ → ℕ → Bool

@@ -14,12 +14,12 @@ ghost use mathlib.Core.Path.{_≡_};
 ghost use mathlib.Core.Bool.{_&&_};
 ghost use mathlib.Core.List.{[], _∷_};
 ghost use Prim.Native.Nat.{_≤_};
-ghost use lib.ListN.{length, drop};
+ghost use lib.ListN.{length, take, drop};
 ghost use Rattle.wire.specs.Digits.{below};
 ghost use Rattle.card.specs.Time.{timeLawful};
 ghost use Rattle.card.specs.Falling.{strobeLawful, periodicLawful};
 ghost use Rattle.card.specs.declared.card.Periodic.the-variants as Periodic;
-ghost use Rattle.card.specs.Lawful.{latchLawful, registersLawful, queueLawful, settingsLawful, lawful};
+ghost use Rattle.card.specs.Lawful.{total, latchLawful, registersLawful, queueLawful, settingsLawful, lawful};
 
 fn registers_fit(control: u8, mask: u8, pending: u8, level: u8) -> bool
     ensures { λ r. ⌜ r ≡ registersLawful control mask pending level ⌝ }
@@ -137,18 +137,26 @@ fn latch_fits(words: [u16; 5]) -> bool
     read_words(words).number == 0
 }
 
-// Only zeros from a place on. The bytes are added up, with no way out before the end, so that many are taken at a time.
-fn zeros_from(bytes: &[u8], from: usize) -> bool
-    requires { ⌜ length (now bytes) ≤ 64 ⌝ }
-    ensures { λ r. ⌜ r ≡ below 1 (drop from (now (bytes .entry))) ⌝ }
+// What the first bytes of a queue add up to.
+fn sum_of(bytes: &[u8], n: usize) -> u32
+    requires { ⌜ (n ≤ 64) × (n ≤ length (now bytes)) ⌝ }
+    ensures { λ r. ⌜ r ≡ total (take n (now (bytes .entry))) ⌝ }
 {
     let mut sum: u32 = 0;
-    let mut i = from;
-    while i < bytes.len() {
+    let mut i: usize = 0;
+    while i < n {
         sum += bytes[i] as u32;
         i += 1;
     }
-    sum == 0
+    sum
+}
+
+// Only zeros from a place on: all bytes add up to what those before it do. So the bytes are taken many at a time, with no way out before the end.
+fn zeros_from(bytes: &[u8], from: usize) -> bool
+    requires { ⌜ (length (now bytes) ≡ 64) × (from ≤ 64) ⌝ }
+    ensures { λ r. ⌜ r ≡ below 1 (drop from (now (bytes .entry))) ⌝ }
+{
+    sum_of(bytes, 64) == sum_of(bytes, from)
 }
 
 fn queue_fits(q: Queue) -> bool
@@ -177,14 +185,26 @@ fn state_fits(t: Time, s: Settings, strobe: Strobe, periodic: Periodic) -> bool
     periodic_fits(periodic)
 }
 
+// Both latches. Zeros are looked for first, in both.
+fn latches_fit(time_latch: [u16; 5], event_latch: [u16; 5]) -> bool
+    ensures { λ r. ⌜ r ≡ (latchLawful «time_latch» && latchLawful «event_latch») ⌝ }
+{
+    if latch_zero(time_latch) {
+        if latch_zero(event_latch) {
+            return true;
+        }
+    }
+    if !latch_fits(time_latch) {
+        return false;
+    }
+    latch_fits(event_latch)
+}
+
 // Both latches and the queue.
 fn held_fits(time_latch: [u16; 5], event_latch: [u16; 5], queue: Queue) -> bool
     ensures { λ r. ⌜ r ≡ (latchLawful «time_latch» && (latchLawful «event_latch» && queueLawful queue)) ⌝ }
 {
-    if !latch_fits(time_latch) {
-        return false;
-    }
-    if !latch_fits(event_latch) {
+    if !latches_fit(time_latch, event_latch) {
         return false;
     }
     queue_fits(queue)

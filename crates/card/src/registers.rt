@@ -1,7 +1,6 @@
 // Registers, input edges and the interrupt line.
 use crate::card::Answer;
 use crate::card::Card;
-use crate::card::Queue;
 use crate::lawful::is_lawful;
 use crate::packets::acknowledge;
 use crate::pending::clear;
@@ -11,9 +10,9 @@ use wire::words::words_of;
 ghost use mathlib.Core.Path.{_≡_};
 ghost use mathlib.Core.Bool.{true};
 ghost use Prim.Native.Nat.{_≤_, _<_};
-ghost use lib.ListN.{getD};
+ghost use lib.ListN.{getD, set};
 ghost use Rattle.card.specs.Lawful.{lawful};
-ghost use Rattle.card.specs.Registers.{wordsNow, readRefusal, shown, readRegister, enqueued, joined, written, writeRefusal, writeRegister, captures, edge, line};
+ghost use Rattle.card.specs.Registers.{wordsNow, readRefusal, shown, readRegister, written, writeRefusal, writeRegister, captures, edge, line};
 
 // What reading a register answers: the card afterwards, the number and the value, 0 beside a refusal.
 pub struct Value {
@@ -141,33 +140,9 @@ fn write_refusal(known: bool, reg: u8, fill: usize) -> u8
     0
 }
 
-// A byte joins the queue.
-fn enqueue(queue: Queue, b: u8) -> Queue
-    requires { ⌜ queue .fill < 64 ⌝ }
-    ensures { λ r. ⌜ r ≡ enqueued queue b ⌝ }
-{
-    let mut q = queue;
-    let fill = q.fill;
-    q.bytes[fill] = b;
-    q.fill = fill + 1;
-    q
-}
-
-// The low byte joins the queue.
-fn join(card: Card, value: u16) -> Card
-    requires { ⌜ card .queue .fill < 64 ⌝ }
-    ensures { λ r. ⌜ r ≡ joined card value ⌝ }
-{
-    let mut c = card;
-    let q = c.queue;
-    let q = enqueue(q, (value % 256) as u8);
-    c.queue = q;
-    c
-}
-
-// What a register does with a value, of a lawful card and a writing that nothing refuses.
+// What any register but FIFO does with a value, of a lawful card.
 pub(crate) fn write_lawful(card: Card, reg: u8, value: u16) -> Answer
-    requires { ⌜ (lawful card ≡ true) × (writeRefusal true reg (card .queue .fill) ≡ 0) ⌝ }
+    requires { ⌜ (lawful card ≡ true) × (reg ≡ 13 → ⊥) ⌝ }
     ensures { λ r. ⌜ r ≡ written card reg value ⌝ }
 {
     let mut c = card;
@@ -182,10 +157,6 @@ pub(crate) fn write_lawful(card: Card, reg: u8, value: u16) -> Answer
             Answer { card: c, number: 0 }
         }
         12 => acknowledge(card, value),
-        13 => {
-            let c = join(card, value);
-            Answer { card: c, number: 0 }
-        }
         14 => {
             c.mask = (value % 32) as u8;
             Answer { card: c, number: 0 }
@@ -205,10 +176,44 @@ pub(crate) fn write_lawful(card: Card, reg: u8, value: u16) -> Answer
     }
 }
 
+// A byte at a place of the queue.
+fn store(bytes: &mut [u8; 64], i: usize, b: u8)
+    requires { ⌜ i < 64 ⌝ }
+    ensures { λ r. ⌜ now (bytes .exit) ≡ set (now (bytes .entry)) i b ⌝ }
+{
+    bytes[i] = b;
+}
+
+// Writes FIFO: the low byte joins the queue where it stands.
+fn write_fifo(card: Card, value: u16) -> Answer
+    ensures { λ r. ⌜ r ≡ writeRegister card 13 value ⌝ }
+{
+    let mut c = card;
+    let mut number: u8 = 0;
+    if is_lawful(card) {
+        let fill = card.queue.fill;
+        if fill == 64 {
+            number = 3;
+        } else {
+            store(&mut c.queue.bytes, fill, (value % 256) as u8);
+            c.queue.fill = fill + 1;
+        }
+    } else {
+        number = 18;
+    }
+    Answer {
+        card: c,
+        number: number,
+    }
+}
+
 // Writes a register. A packet refused through ACK empties the queue and clears the done bit; any other refusal changes nothing.
 pub fn write_register(card: Card, reg: u8, value: u16) -> Answer
     ensures { λ r. ⌜ r ≡ writeRegister card reg value ⌝ }
 {
+    if reg == 13 {
+        return write_fifo(card, value);
+    }
     let number = write_refusal(is_lawful(card), reg, card.queue.fill);
     if number != 0 {
         return Answer {

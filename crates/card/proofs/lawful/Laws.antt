@@ -1,25 +1,22 @@
 -- What deciding lawfulness rests on: bytes are all zero exactly if they add up to zero, and the parts of the list as the code groups them.
 -- Assumes nothing.
 use Prim.Native.Nat.{ℕ, zero, suc, _+_, _*_, _-_, _≤_, _<_}
-use mathlib.Core.Path.{_≡_, refl, sym, ap, _∙_}
-use mathlib.Core.Bool.{Bool, true, _&&_}
-use mathlib.Core.List.{List, [], _∷_}
+use mathlib.Core.Path.{_≡_, refl, sym, ap, ap₂, _∙_}
+use mathlib.Core.Bool.{Bool, true, false, _&&_}
+use mathlib.Core.List.{List, [], _∷_, _++_}
 use native.Mathlib.Numerals.{add-one}
 use native.Mathlib.Omega.{arith}
 use lib.Dec.{eqb, ltb}
-use lib.ListN.{length, drop, getD, drop-of-length-le}
-use lib.Seq.{drop-cons}
-use borrow.Author.Tests.{ne-eqb, le-ltb}
+use lib.ListN.{length, take, drop, getD, take-append-drop}
+use lib.Seq.{take-suc, take-all}
+use borrow.Author.Tests.{eq-eqb, ne-eqb, le-ltb}
 use Rattle.wire.specs.Digits.{below}
 use Rattle.wire.proofs.digits.Laws.{and-both, and-assoc}
+use Rattle.card.specs.declared.card.Queue.{Queue}
 use Rattle.card.specs.declared.card.Card.{Card}
 use Rattle.card.specs.Time.{timeLawful}
 use Rattle.card.specs.Falling.{strobeLawful, periodicLawful}
-use Rattle.card.specs.Lawful.{latchLawful, registersLawful, queueLawful, settingsLawful, lawful}
-
-unfoldable pub total : List ℕ → ℕ
-total [] = 0
-total (b ∷ bs) = b + total bs
+use Rattle.card.specs.Lawful.{total, latchLawful, registersLawful, queueLawful, settingsLawful, lawful}
 
 zero-step : (b t : ℕ) (z : Bool) → eqb t 0 ≡ z → eqb (b + t) 0 ≡ (ltb b 1 && z)
 zero-step zero t z e = ap (λ (n : ℕ). eqb n 0) (let q : 0 + t ≡ t = omega arith in q) ∙ e
@@ -31,26 +28,40 @@ zero-total [] = refl
 zero-total (b ∷ bs) = zero-step b (total bs) (below 1 bs) (zero-total bs)
 
 -- the bytes up to place i are added up
-pub record Summed (bs : List ℕ) (from sum i : ℕ) : Type 0 where
-  pub all : sum + total (drop i bs) ≡ total (drop from bs)
+pub record Summed (bs : List ℕ) (sum i : ℕ) : Type 0 where
+  pub all : sum ≡ total (take i bs)
   pub small : sum ≤ 255 * i
 
-pub summed-none : (bs : List ℕ) (from : ℕ) → Summed bs from 0 from
-summed-none bs from = record { all = omega arith; small = omega arith }
-
-pub summed-more : (bs : List ℕ) (from sum i : ℕ) → Summed bs from sum i → i < length bs → getD bs i 0 ≤ 255 → Summed bs from (sum + getD bs i 0) (i + 1)
+pub summed-none : (bs : List ℕ) → Summed bs 0 0
 unfolding total
-summed-more bs from sum i s l b =
+summed-none bs = record { all = refl; small = omega arith }
+
+total-append : (xs ys : List ℕ) → total (xs ++ ys) ≡ total xs + total ys
+unfolding total
+total-append [] ys = omega arith
+total-append (x ∷ xs) ys = let e = total-append xs ys in omega arith
+
+pub summed-more : (bs : List ℕ) (sum i : ℕ) → Summed bs sum i → i < length bs → getD bs i 0 ≤ 255 → Summed bs (sum + getD bs i 0) (i + 1)
+unfolding total
+summed-more bs sum i s l b =
+    let t : take (i + 1) bs ≡ take i bs ++ (getD bs i 0 ∷ []) = rw add-one (take-suc bs i 0 l) in
     record {
-      all = let q : total (drop i bs) ≡ getD bs i 0 + total (drop (i + 1) bs) = ap total (let d : drop i bs ≡ getD bs i 0 ∷ drop (i + 1) bs = rw add-one (drop-cons bs i 0 l) in d) in omega (arith, s .all);
+      all = let q : total (take (i + 1) bs) ≡ total (take i bs) + total (getD bs i 0 ∷ []) = ap total t ∙ total-append (take i bs) (getD bs i 0 ∷ []) in omega (arith, s .all);
       small = omega (arith, s .small);
     }
 
-pub summed-all : (bs : List ℕ) (from sum i : ℕ) → Summed bs from sum i → length bs ≤ i → eqb sum 0 ≡ below 1 (drop from bs)
-unfolding total
-summed-all bs from sum i s l =
-    let q : total (drop i bs) ≡ 0 = ap total (drop-of-length-le bs l) in
-    ap (λ (n : ℕ). eqb n 0) (let e : sum ≡ total (drop from bs) = omega (arith, s .all) in e) ∙ zero-total (drop from bs)
+-- only zeros stand behind a place exactly if nothing is added there
+same-total : (a b : ℕ) → eqb (a + b) a ≡ eqb b 0
+same-total a zero = eq-eqb (a + 0) a (omega arith)
+same-total a (suc b) = ne-eqb (a + suc b) a (λ e. omega arith) ∙ sym (ne-eqb (suc b) 0 (λ e. omega arith))
+
+pub zeros-behind : (bs : List ℕ) (n i all some : ℕ) → length bs ≤ n → all ≡ total (take n bs) → some ≡ total (take i bs) → eqb all some ≡ below 1 (drop i bs)
+zeros-behind bs n i all some l a s =
+    ap₂ eqb
+    (a ∙ ap total (take-all n bs l ∙ sym (take-append-drop i bs)) ∙ total-append (take i bs) (drop i bs))
+    s
+    ∙ same-total (total (take i bs)) (total (drop i bs))
+    ∙ zero-total (drop i bs)
 
 -- a card's parts, as the code groups them
 pub lawful-parts : (c : Card) →
@@ -60,6 +71,18 @@ pub lawful-parts : (c : Card) →
     && (latchLawful (c .«time_latch») && (latchLawful (c .«event_latch») && queueLawful (c .queue)))))
 unfolding lawful
 lawful-parts c = simp and-assoc
+
+-- two latches of zeros, or each of them lawful
+pub latches-zero : (ws vs : List ℕ) → below 1 ws ≡ true → below 1 vs ≡ true → (latchLawful ws && latchLawful vs) ≡ true
+unfolding latchLawful
+latches-zero ws vs e f = simp (e, f)
+
+module _ (ws vs : List ℕ) (q : Queue) where
+  pub held-not : (latchLawful ws && latchLawful vs) ≡ false → false ≡ (latchLawful ws && (latchLawful vs && queueLawful q))
+  held-not e = sym (sym (and-assoc (latchLawful ws) (latchLawful vs) (queueLawful q)) ∙ ap (λ (t : Bool). t && queueLawful q) e)
+
+  pub held-fit : (latchLawful ws && latchLawful vs) ≡ true → queueLawful q ≡ (latchLawful ws && (latchLawful vs && queueLawful q))
+  held-fit e = sym (sym (and-assoc (latchLawful ws) (latchLawful vs) (queueLawful q)) ∙ ap (λ (t : Bool). t && queueLawful q) e)
 
 -- a lawful card is lawful in each part, and a card lawful in each part is
 pub record Parts (c : Card) : Type 0 where

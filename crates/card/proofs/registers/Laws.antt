@@ -1,5 +1,5 @@
 -- Registers: what a refusal of 0 tells, and the words of a lawful card's time. Assumes nothing.
-use Prim.Native.Nat.{ℕ, _-_, _%_, _≤_, _<_}
+use Prim.Native.Nat.{ℕ, _+_, _-_, _%_, _≤_, _<_}
 use native.Mathlib.Nat.{pos-of-ne-zero}
 use lib.Arith.{lt-of-le-ne}
 use mathlib.Core.Path.{_≡_, refl, sym, ap, ap₂, _∙_}
@@ -7,13 +7,13 @@ use mathlib.Core.List.{List}
 use mathlib.Core.Bool.{Bool, true, false, _&&_}
 use native.Mathlib.Omega.{arith}
 use lib.Dec.{eqb, leb}
-use lib.ListN.{getD, drop}
-use borrow.Author.Tests.{le-leb, lt-leb, lt-ltb, le-ltb, eq-eqb, ne-eqb, leb-true, eqb-false}
+use lib.ListN.{getD, drop, set}
+use borrow.Author.Tests.{le-leb, lt-leb, lt-ltb, le-ltb, eq-eqb, ne-eqb, leb-true}
 use Rattle.wire.specs.Numbers.{given}
 use Rattle.wire.specs.Words.{writable, wordsOf, wordsOrZero}
 use Rattle.card.specs.declared.time.Time.{Time}
 use Rattle.card.specs.declared.card.Card.{Card}
-use Rattle.card.specs.Cards.{withTimeLatch, withEventLatch, withPending, withVector}
+use Rattle.card.specs.Cards.{withTimeLatch, withEventLatch, withPending, withVector, withQueue}
 use Rattle.card.specs.Time.{timeLawful}
 use Rattle.card.specs.Lawful.{lawful, queueLawful}
 use Rattle.card.specs.Registers.{readRefusal, readRegister, shown, value, answer, wordsNow, writeRefusal, writeRegister, written, captures, edge, line, lineUp}
@@ -88,10 +88,8 @@ module _ (c : Card) (reg v n : ℕ) (k : Bool) (ek : k ≡ lawful c) (en : n ≡
   f : n ≡ writeRefusal (lawful c) reg (c .queue .fill)
   f = en ∙ ap (λ (t : Bool). writeRefusal t reg (c .queue .fill)) ek
 
-  pub write-accepted : n ≡ 0 → (lawful c ≡ true) × (writeRefusal true reg (c .queue .fill) ≡ 0)
-  write-accepted h =
-      let l = write-known (lawful c) reg (c .queue .fill) (sym f ∙ h) in
-      (l, ap (λ (t : Bool). writeRefusal t reg (c .queue .fill)) (sym l) ∙ sym f ∙ h)
+  pub write-lawful : n ≡ 0 → lawful c ≡ true
+  write-lawful h = write-known (lawful c) reg (c .queue .fill) (sym f ∙ h)
 
   pub write-refused : (n ≡ 0 → ⊥) → answer c n ≡ writeRegister c reg v
   unfolding writeRegister
@@ -123,13 +121,22 @@ pub queue-within : (c : Card) → lawful c ≡ true → c .queue .fill ≤ 64
 unfolding queueLawful
 queue-within c h = leb-true (c .queue .fill) 64 (and-left (leb (c .queue .fill) 64) (below 1 (drop (c .queue .fill) (c .queue .bytes))) (parts c h .queue))
 
-not-full : (fill : ℕ) → fill ≤ 64 → (t : Bool) → eqb fill 64 ≡ t → writeRefusal true 13 fill ≡ 0 → fill < 64
-unfolding writeRefusal given
-not-full fill l true e z = absurd (let q = simp e at z in omega arith)
-not-full fill l false e z = lt-of-le-ne l (eqb-false fill 64 e)
+pub queue-room : (c : Card) → lawful c ≡ true → (c .queue .fill ≡ 64 → ⊥) → c .queue .fill < 64
+queue-room c h e = lt-of-le-ne (queue-within c h) e
 
-pub queue-room : (c : Card) (reg : ℕ) → lawful c ≡ true → reg ≡ 13 → writeRefusal true reg (c .queue .fill) ≡ 0 → c .queue .fill < 64
-queue-room c reg h r z = not-full (c .queue .fill) (queue-within c h) (eqb (c .queue .fill) 64) refl (ap (λ (n : ℕ). writeRefusal true n (c .queue .fill)) (sym r) ∙ z)
+-- writing FIFO: 18, 3, or the byte joins the queue
+module _ (c : Card) (v : ℕ) (k : Bool) (ek : k ≡ lawful c) where
+  pub fifo-18 : k ≡ false → answer c 18 ≡ writeRegister c 13 v
+  unfolding writeRegister writeRefusal given
+  fifo-18 h = simp (sym ek ∙ h)
+
+  pub fifo-3 : k ≡ true → c .queue .fill ≡ 64 → answer c 3 ≡ writeRegister c 13 v
+  unfolding writeRegister writeRefusal given
+  fifo-3 h e = simp (sym ek ∙ h, eq-eqb (c .queue .fill) 64 e)
+
+  pub fifo-joins : k ≡ true → (c .queue .fill ≡ 64 → ⊥) → (bs : List ℕ) → bs ≡ set (c .queue .bytes) (c .queue .fill) (v % 256) → answer (withQueue c (record { bytes = bs; fill = c .queue .fill + 1 })) 0 ≡ writeRegister c 13 v
+  unfolding writeRegister writeRefusal given written
+  fifo-joins h e bs eb = ap (λ (l : List ℕ). answer (withQueue c (record { bytes = l; fill = c .queue .fill + 1 })) 0) eb ∙ simp (sym ek ∙ h, ne-eqb (c .queue .fill) 64 e)
 
 pub writes-vector : (c : Card) (reg v : ℕ) → (reg ≡ 0 → ⊥) → (reg ≡ 11 → ⊥) → (reg ≡ 12 → ⊥) → (reg ≡ 13 → ⊥) → (reg ≡ 14 → ⊥) → (reg ≡ 15 → ⊥) → (reg ≡ 16 → ⊥) →
     answer (withVector c (v % 256)) 0 ≡ written c reg v

@@ -19,7 +19,7 @@ slice-aggregate-zeros-from c = search needs
 zeros-from-requires : tie.Need-zeros-from-requires
 zeros-from-requires c κs =
     let l : length (c .before .before .before .before .args .q .bytes) ≡ 64 = search needs in
-    omega arith
+    (l, omega arith)
 
 returns-2 : tie.Need-returns-2
 unfolding queueLawful

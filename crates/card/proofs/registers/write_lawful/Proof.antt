@@ -3,10 +3,9 @@
 use Prim.Native.Nat.{ℕ}
 use mathlib.Core.Path.{sym, ap, _∙_}
 use mathlib.Core.List.{List}
-use Rattle.card.specs.declared.card.Card.{Card}
 use Rattle.card.specs.Cards.{withTimeLatch, withPending}
 use Rattle.card.specs.Registers.{answer, written}
-use Rattle.card.proofs.registers.Laws.{queue-within, queue-room, writes-vector}
+use Rattle.card.proofs.registers.Laws.{queue-within, writes-vector}
 use borrow.Author.Needs.{needs}
 use Rattle.card.proofs.registers.write_lawful.Statement.{statement}
 use Rattle.card.proofs.registers.write_lawful.Tie as tie
@@ -19,9 +18,6 @@ cast-c c = search needs
 
 acknowledge-requires : tie.Need-acknowledge-requires
 acknowledge-requires c κs = queue-within _ (c .before .pre .0)
-
-join-requires : tie.Need-join-requires
-join-requires c κs = queue-room _ _ (c .before .pre .0) (c .match .keys4) (c .before .pre .1)
 
 cast-c-2 : tie.Need-cast-c-2
 cast-c-2 c = search needs
@@ -49,24 +45,20 @@ returns-3 c = c .acknowledge .ensures ∙ ap (λ (r : ℕ). written (c .before .
 
 returns-4 : tie.Need-returns-4
 unfolding written
-returns-4 c = ap (λ (k : Card). answer k 0) (c .join .ensures) ∙ ap (λ (r : ℕ). written (c .before .before .args .card) r (c .before .before .args .value)) (sym (c .before .match .keys4))
+returns-4 c = ap (λ (r : ℕ). written (c .before .args .card) r (c .before .args .value)) (sym (c .match .keys4))
 
 returns-5 : tie.Need-returns-5
 unfolding written
-returns-5 c = ap (λ (r : ℕ). written (c .before .args .card) r (c .before .args .value)) (sym (c .match .keys5))
+returns-5 c = ap (λ (p : ℕ). answer (withPending (c .before .before .args .card) p) 0) (c .clear .ensures) ∙ ap (λ (r : ℕ). written (c .before .before .args .card) r (c .before .before .args .value)) (sym (c .before .match .keys5))
 
 returns-6 : tie.Need-returns-6
 unfolding written
-returns-6 c = ap (λ (p : ℕ). answer (withPending (c .before .before .args .card) p) 0) (c .clear .ensures) ∙ ap (λ (r : ℕ). written (c .before .before .args .card) r (c .before .before .args .value)) (sym (c .before .match .keys6))
+returns-6 c = ap (λ (r : ℕ). written (c .before .args .card) r (c .before .args .value)) (sym (c .match .keys6))
 
 returns-7 : tie.Need-returns-7
-unfolding written
-returns-7 c = ap (λ (r : ℕ). written (c .before .args .card) r (c .before .args .value)) (sym (c .match .keys7))
-
-returns-8 : tie.Need-returns-8
-returns-8 c =
+returns-7 c =
     let r = c .match .rest in
-    writes-vector (c .before .args .card) (c .before .args .reg) (c .before .args .value) (r .0 .0 .0 .0 .0 .0 .1) (r .0 .0 .0 .0 .0 .1) (r .0 .0 .0 .0 .1) (r .0 .0 .0 .1) (r .0 .0 .1) (r .0 .1) (r .1)
+    writes-vector (c .before .args .card) (c .before .args .reg) (c .before .args .value) (r .0 .0 .0 .0 .0 .1) (r .0 .0 .0 .0 .1) (r .0 .0 .0 .1) (c .before .pre .1) (r .0 .0 .1) (r .0 .1) (r .1)
 
 pub write-lawful-spec : {M : Type 1} → statement M
 write-lawful-spec =
@@ -75,7 +67,6 @@ write-lawful-spec =
     words-now-requires
     cast-c
     acknowledge-requires
-    join-requires
     cast-c-2
     clear-requires
     cast-c-3
@@ -86,5 +77,4 @@ write-lawful-spec =
     returns-4
     returns-5
     returns-6
-    returns-7
-    returns-8)
+    returns-7)
