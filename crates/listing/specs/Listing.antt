@@ -157,6 +157,15 @@ unfoldable pub joinedParts : List (List ℕ) → List ℕ
 joinedParts [] = []
 joinedParts (part ∷ parts) = part ++ joinedParts parts
 
+-- a run of calls: each is handed some part of the input, takes bytes of it, and has what it wrote to its row written out; the rest of the part goes to the
+-- next call; at the end of the input the last rest is finished. Of a bench, an input and all that is written out
+pub data Runs : Bench → List ℕ → List ℕ → Type 0 where
+  finished : {b : Bench} (row : List ℕ) → goesOn (b .number) (length row) ≡ true →
+      Runs b [] (take (length (lastLine b (length row))) (placed row 0 (lastLine b (length row))))
+  called : {b : Bench} {text : List ℕ} (part later row : List ℕ) →
+      Runs (feed b part (length row) .bench) (drop (feed b part (length row) .taken) part ++ later) text →
+      Runs b (part ++ later) (take (feed b part (length row) .written) (rowFed b part row) ++ text)
+
 -- WITHIN THE CRATE
 
 -- k is how many decimal digits n has

@@ -1,5 +1,4 @@
 // Lines of the listing, written at a place of a lent row. Every other place stays as it was.
-ghost use mathlib.Core.Path.{_≡_};
 ghost use mathlib.Core.List.{[], _∷_};
 ghost use Prim.Native.Nat.{_+_, _≤_, _<_};
 ghost use lib.ListN.{length};

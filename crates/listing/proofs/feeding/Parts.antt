@@ -1,15 +1,17 @@
--- THE LAW OF THE BENCH: in whatever parts an input comes, and however much room each call has, what is written is the listing of the whole input.
+-- The law of the bench: in whatever parts an input comes, and however much room each call has, what is written is the listing of the whole input.
 -- By induction on the parts, from the laws of cutting. Assumes nothing.
-use Prim.Native.Nat.{ℕ, _+_, _-_, _≤_, _<_}
+use Prim.Native.Nat.{ℕ, zero, suc, _+_, _-_, _≤_, _<_}
 use mathlib.Core.Path.{_≡_, refl, sym, ap, ap₂, _∙_}
 use mathlib.Core.Bool.{true}
 use mathlib.Core.List.{List, [], _∷_, _++_, append-assoc}
 use native.Mathlib.Omega.{arith}
-use lib.ListN.{length, take, replicate}
+use lib.ListN.{length, take, drop, replicate}
 use lib.Seq.{take-at}
 use borrow.Author.Tests.{le-leb}
-use Rattle.listing.specs.Listing.{pieces, rest, lastPiece, line, lines, header, listing, queueOf, benchOf, heldIn, goesOn, takes, linesOf, fedTo, feed, textOver, joinedParts}
-use Rattle.listing.proofs.feeding.Laws.{rest-append, pieces-append, lines-append}
+use Rattle.listing.specs.declared.feeding.Bench.{Bench}
+use Rattle.listing.specs.declared.feeding.Fed.{Fed}
+use Rattle.listing.specs.Listing.{pieces, rest, lastPiece, lines, header, listing, queueOf, benchOf, heldIn, goesOn, takes, linesOf, fedTo, feed, lastLine, rowFed, placed, textOver, joinedParts, Runs, finished, called}
+use Rattle.listing.proofs.feeding.Laws.{rest-append, pieces-append, lines-append, rest-short}
 
 -- the pieces of an input, behind what is held
 module _ (n : ℕ) (held xs ys : List ℕ) where
@@ -52,3 +54,60 @@ line-behind held n part = ap (λ (x : List ℕ). lines n (pieces x part)) (held-
 pub takes-some : (held : List ℕ) (n room b : ℕ) (bs : List ℕ) → goesOn n room ≡ true → 0 < takes held n room (b ∷ bs)
 unfolding takes
 takes-some held n room b bs e = rw e (omega arith)
+
+-- A RUN OF CALLS
+
+take-drop : (t : ℕ) (xs : List ℕ) → take t xs ++ drop (length (take t xs)) xs ≡ xs
+take-drop zero xs = refl
+take-drop (suc t) [] = refl
+take-drop (suc t) (x ∷ xs) = ap (λ (l : List ℕ). x ∷ l) (take-drop t xs)
+
+-- the front of a row is the text that was put there
+front : (row text : List ℕ) (k : ℕ) → k ≡ length text → take k (placed row 0 text) ≡ text
+front row text k e = take-at text (drop (0 + length text) row) k (sym e)
+
+-- the last line
+module _ (b : Bench) (held : List ℕ) (n : ℕ) (e : b ≡ benchOf held n) (h : length held ≤ 40) where
+  last-again : (room : ℕ) → goesOn (b .number) room ≡ true → lastLine b room ≡ lines n (lastPiece held)
+  unfolding lastLine
+  last-again room g =
+      ap (λ (x : Bench). lastLine x room) e
+      ∙ simp (le-leb (length held) 40 h, let f : goesOn n room ≡ true = ap (λ (x : Bench). goesOn (x .number) room) (sym e) ∙ g in f, held-again held)
+
+  -- a call
+  module _ (input row : List ℕ) where
+    pub call-answer : feed b input (length row) ≡ fedTo (benchOf held n) (take (takes held n (length row) input) input)
+    call-answer = ap (λ (x : Bench). feed x input (length row)) e ∙ feed-again held n input (length row) h
+
+    pub call-row : rowFed b input row ≡ placed row 0 (lines n (pieces held (take (takes held n (length row) input) input)))
+    unfolding rowFed
+    call-row = ap (λ (x : Bench). rowFed x input row) e ∙ simp (le-leb (length held) 40 h, held-again held)
+
+    pub call-text : take (feed b input (length row) .written) (rowFed b input row) ≡ lines n (pieces held (take (takes held n (length row) input) input))
+    call-text =
+        ap (take (feed b input (length row) .written)) call-row
+        ∙ front row (lines n (pieces held (take (takes held n (length row) input) input))) (feed b input (length row) .written)
+        (ap (λ (r : Fed). r .written) call-answer ∙ ap length (line-behind held n (take (takes held n (length row) input) input)))
+
+    pub call-rest : take (takes held n (length row) input) input ++ drop (feed b input (length row) .taken) input ≡ input
+    call-rest =
+        ap (λ (k : ℕ). take (takes held n (length row) input) input ++ drop k input) (ap (λ (r : Fed). r .taken) call-answer) ∙ take-drop (takes held n (length row) input) input
+
+run-lines : {b : Bench} {input text : List ℕ} → Runs b input text → (held : List ℕ) (n : ℕ) → b ≡ benchOf held n → length held ≤ 40 →
+    text ≡ lines n (pieces held input ++ lastPiece (rest held input))
+unfolding pieces rest
+run-lines {b} (finished row g) held n e h =
+    front row (lastLine b (length row)) (length (lastLine b (length row))) refl ∙ last-again b held n e h (length row) g
+run-lines {b} (called input later row r) held n e h =
+    let part = take (takes held n (length row) input) input in
+    let behind = drop (feed b input (length row) .taken) input ++ later in
+    let left : feed b input (length row) .bench ≡ benchOf (rest held part) (n + length (pieces held part)) = ap (λ (x : Fed). x .bench) (call-answer b held n e h input row) ∙ left-behind held n part in
+    let all : part ++ behind ≡ input ++ later = sym (append-assoc part (drop (feed b input (length row) .taken) input) later) ∙ ap (λ (l : List ℕ). l ++ later) (call-rest b held n e h input row) in
+    ap₂ (λ (x y : List ℕ). x ++ y) (call-text b held n e h input row) (run-lines r (rest held part) (n + length (pieces held part)) left (rest-short held part h))
+    ∙ sym (lines-parted n held part behind)
+    ∙ ap (λ (x : List ℕ). lines n (pieces held x ++ lastPiece (rest held x))) all
+
+-- however the calls are made, the header and what is written out are the listing of the whole input
+pub run-listing : (input text : List ℕ) → Runs (benchOf [] 1) input text → header ++ text ≡ listing input
+unfolding listing
+run-listing input text r = ap (λ (l : List ℕ). header ++ l) (run-lines r [] 1 refl (omega arith))
