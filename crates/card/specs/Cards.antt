@@ -1,50 +1,45 @@
--- The card with one field changed. There is no update of a record in this language, so each field that a call may set has its definition here, and
--- here alone is written out that the other twelve stay.
+-- The card with one part changed. There is no update of a record in this language, so each part has its definition here, and here alone is written out that
+-- the others stay.
 use Prim.Native.Nat.{ℕ}
 use mathlib.Core.Bool.{Bool}
 use mathlib.Core.List.{List}
-use Rattle.card.specs.declared.time.Time.{Time}
-use Rattle.card.specs.declared.card.Queue.{Queue}
-use Rattle.card.specs.declared.card.Settings.{Settings}
-use Rattle.card.specs.declared.card.Strobe.{Strobe}
-use Rattle.card.specs.declared.card.Periodic.{Periodic}
+use lib.Dec.{eqb}
+use Rattle.wire.specs.Digits.{pick}
+use Rattle.wire.specs.Numbers.{Line, given}
+use Rattle.clock.specs.declared.clock.Clock.{Clock}
+use Rattle.parts.specs.declared.queue.Queue.{Queue}
+use Rattle.parts.specs.declared.event.Event.{Event}
+use Rattle.parts.specs.declared.settings.Settings.{Settings}
+use Rattle.parts.specs.declared.interrupts.Interrupts.{Interrupts}
 use Rattle.card.specs.declared.card.Card.{Card}
-
-abbrev pub withTime : Card → Time → Card
-withTime c v = record { time = v; «time_latch» = c .«time_latch»; «event_latch» = c .«event_latch»; control = c .control; done = c .done; mask = c .mask; pending = c .pending; level = c .level; vector = c .vector; queue = c .queue; settings = c .settings; strobe = c .strobe; periodic = c .periodic }
-
-abbrev pub withTimeLatch : Card → List ℕ → Card
-withTimeLatch c v = record { time = c .time; «time_latch» = v; «event_latch» = c .«event_latch»; control = c .control; done = c .done; mask = c .mask; pending = c .pending; level = c .level; vector = c .vector; queue = c .queue; settings = c .settings; strobe = c .strobe; periodic = c .periodic }
-
-abbrev pub withEventLatch : Card → List ℕ → Card
-withEventLatch c v = record { time = c .time; «time_latch» = c .«time_latch»; «event_latch» = v; control = c .control; done = c .done; mask = c .mask; pending = c .pending; level = c .level; vector = c .vector; queue = c .queue; settings = c .settings; strobe = c .strobe; periodic = c .periodic }
-
-abbrev pub withControl : Card → ℕ → Card
-withControl c v = record { time = c .time; «time_latch» = c .«time_latch»; «event_latch» = c .«event_latch»; control = v; done = c .done; mask = c .mask; pending = c .pending; level = c .level; vector = c .vector; queue = c .queue; settings = c .settings; strobe = c .strobe; periodic = c .periodic }
-
-abbrev pub withDone : Card → Bool → Card
-withDone c v = record { time = c .time; «time_latch» = c .«time_latch»; «event_latch» = c .«event_latch»; control = c .control; done = v; mask = c .mask; pending = c .pending; level = c .level; vector = c .vector; queue = c .queue; settings = c .settings; strobe = c .strobe; periodic = c .periodic }
-
-abbrev pub withMask : Card → ℕ → Card
-withMask c v = record { time = c .time; «time_latch» = c .«time_latch»; «event_latch» = c .«event_latch»; control = c .control; done = c .done; mask = v; pending = c .pending; level = c .level; vector = c .vector; queue = c .queue; settings = c .settings; strobe = c .strobe; periodic = c .periodic }
-
-abbrev pub withPending : Card → ℕ → Card
-withPending c v = record { time = c .time; «time_latch» = c .«time_latch»; «event_latch» = c .«event_latch»; control = c .control; done = c .done; mask = c .mask; pending = v; level = c .level; vector = c .vector; queue = c .queue; settings = c .settings; strobe = c .strobe; periodic = c .periodic }
-
-abbrev pub withLevel : Card → ℕ → Card
-withLevel c v = record { time = c .time; «time_latch» = c .«time_latch»; «event_latch» = c .«event_latch»; control = c .control; done = c .done; mask = c .mask; pending = c .pending; level = v; vector = c .vector; queue = c .queue; settings = c .settings; strobe = c .strobe; periodic = c .periodic }
-
-abbrev pub withVector : Card → ℕ → Card
-withVector c v = record { time = c .time; «time_latch» = c .«time_latch»; «event_latch» = c .«event_latch»; control = c .control; done = c .done; mask = c .mask; pending = c .pending; level = c .level; vector = v; queue = c .queue; settings = c .settings; strobe = c .strobe; periodic = c .periodic }
+use Rattle.card.specs.declared.card.Answer.{Answer}
 
 abbrev pub withQueue : Card → Queue → Card
-withQueue c v = record { time = c .time; «time_latch» = c .«time_latch»; «event_latch» = c .«event_latch»; control = c .control; done = c .done; mask = c .mask; pending = c .pending; level = c .level; vector = c .vector; queue = v; settings = c .settings; strobe = c .strobe; periodic = c .periodic }
+withQueue c v = record { queue = v; clock = c .clock; «time_latch» = c .«time_latch»; event = c .event; settings = c .settings; interrupts = c .interrupts; done = c .done }
+
+abbrev pub withClock : Card → Clock → Card
+withClock c v = record { queue = c .queue; clock = v; «time_latch» = c .«time_latch»; event = c .event; settings = c .settings; interrupts = c .interrupts; done = c .done }
+
+abbrev pub withTimeLatch : Card → List ℕ → Card
+withTimeLatch c v = record { queue = c .queue; clock = c .clock; «time_latch» = v; event = c .event; settings = c .settings; interrupts = c .interrupts; done = c .done }
+
+abbrev pub withEvent : Card → Event → Card
+withEvent c v = record { queue = c .queue; clock = c .clock; «time_latch» = c .«time_latch»; event = v; settings = c .settings; interrupts = c .interrupts; done = c .done }
 
 abbrev pub withSettings : Card → Settings → Card
-withSettings c v = record { time = c .time; «time_latch» = c .«time_latch»; «event_latch» = c .«event_latch»; control = c .control; done = c .done; mask = c .mask; pending = c .pending; level = c .level; vector = c .vector; queue = c .queue; settings = v; strobe = c .strobe; periodic = c .periodic }
+withSettings c v = record { queue = c .queue; clock = c .clock; «time_latch» = c .«time_latch»; event = c .event; settings = v; interrupts = c .interrupts; done = c .done }
 
-abbrev pub withStrobe : Card → Strobe → Card
-withStrobe c v = record { time = c .time; «time_latch» = c .«time_latch»; «event_latch» = c .«event_latch»; control = c .control; done = c .done; mask = c .mask; pending = c .pending; level = c .level; vector = c .vector; queue = c .queue; settings = c .settings; strobe = v; periodic = c .periodic }
+abbrev pub withInterrupts : Card → Interrupts → Card
+withInterrupts c v = record { queue = c .queue; clock = c .clock; «time_latch» = c .«time_latch»; event = c .event; settings = c .settings; interrupts = v; done = c .done }
 
-abbrev pub withPeriodic : Card → Periodic → Card
-withPeriodic c v = record { time = c .time; «time_latch» = c .«time_latch»; «event_latch» = c .«event_latch»; control = c .control; done = c .done; mask = c .mask; pending = c .pending; level = c .level; vector = c .vector; queue = c .queue; settings = c .settings; strobe = c .strobe; periodic = v }
+abbrev pub withDone : Card → Bool → Card
+withDone c v = record { queue = c .queue; clock = c .clock; «time_latch» = c .«time_latch»; event = c .event; settings = c .settings; interrupts = c .interrupts; done = v }
+
+-- ANSWERS
+
+abbrev pub answer : Card → ℕ → Answer
+answer c n = record { card = c; number = n }
+
+-- what a call with these lines answers: the changed card if none of them holds, else the card as it was and the number
+unfoldable pub granted : List Line → Card → Card → Answer
+granted ls c changed = answer (pick (eqb (given ls) 0) changed c) (given ls)

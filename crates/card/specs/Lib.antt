@@ -1,13 +1,8 @@
-pub mod Calls
 pub mod Cards
-pub mod Falling
 pub mod Lawful
 pub mod Packets
-pub mod Pending
 pub mod Registers
 pub mod Reset
 pub mod Saved
 pub mod Setting
-pub mod Sources
-pub mod Time
 pub mod Waiting

@@ -1,44 +1,39 @@
--- Packets: the queue read as one packet, and what a packet sets.
+-- Packets: the queue read as one packet.
 use Prim.Native.Nat.{ℕ}
-use mathlib.Core.Bool.{true, false}
+use mathlib.Core.Bool.{false}
 use mathlib.Core.List.{List}
-use lib.ListN.{take, replicate}
+use lib.Dec.{eqb}
 use Rattle.wire.specs.Digits.{pick}
-use Rattle.wire.specs.Packets.{readPacket}
-use Rattle.wire.specs.declared.packets.Packet.{Packet}
-use Rattle.wire.specs.declared.packets.Packet.the-variants as Packet
-use Rattle.wire.specs.declared.packets.PacketRead.{PacketRead}
-use Rattle.wire.specs.declared.packets.PacketRead.the-variants as PacketRead
-use Rattle.card.specs.declared.card.Queue.{Queue}
-use Rattle.card.specs.declared.card.Settings.{Settings}
+use Rattle.wire.specs.Numbers.{Line, given}
+use Rattle.wire.specs.Packets.{packetLines, packetIn}
+use Rattle.parts.specs.declared.queue.Queue.{Queue}
+use Rattle.parts.specs.declared.settings.Settings.{Settings}
+use Rattle.parts.specs.Pending.{bit}
+use Rattle.parts.specs.Queues.{emptyQueue, queued}
+use Rattle.parts.specs.Settings.{applied}
 use Rattle.card.specs.declared.card.Card.{Card}
 use Rattle.card.specs.declared.card.Answer.{Answer}
-use Rattle.card.specs.Cards.{withDone, withQueue, withSettings}
-use Rattle.card.specs.Pending.{bit}
+use Rattle.card.specs.Cards.{answer, withDone, withQueue, withSettings}
 
--- an empty queue: no bytes, and 64 zeros
-abbrev pub emptyQueue : Queue
-emptyQueue = record { bytes = replicate 64 0; fill = 0 }
+-- the refusals of ACK, as one table: 4 to 10, of what stands in the queue
+abbrev pub ackLines : Queue → List Line
+ackLines q = packetLines (queued q)
 
--- the settings with what a packet says
-abbrev pub applied : Packet → Settings → Settings
-applied (Packet.A m) s = record { mode = m; format = s .format; modulation = s .modulation; clock = s .clock; generator = s .generator; offset = s .offset }
-applied (Packet.G z) s = record { mode = s .mode; format = s .format; modulation = s .modulation; clock = s .clock; generator = s .generator; offset = z }
-applied (Packet.H f m) s = record { mode = s .mode; format = f; modulation = m; clock = s .clock; generator = s .generator; offset = s .offset }
-applied (Packet.I c) s = record { mode = s .mode; format = s .format; modulation = s .modulation; clock = c; generator = s .generator; offset = s .offset }
-applied (Packet.K g) s = record { mode = s .mode; format = s .format; modulation = s .modulation; clock = s .clock; generator = g; offset = s .offset }
+unfoldable pub ackRefusal : Queue → ℕ
+ackRefusal q = given (ackLines q)
 
--- after acceptance the queue is empty, the done bit set and the setting changed; after refusal the queue is empty and the done bit clear
-abbrev pub taken : PacketRead → Card → Answer
-taken (PacketRead.Is p) c = record { card = withSettings (withDone (withQueue c emptyQueue) true) (applied p (c .settings)); number = 0 }
-taken (PacketRead.Refused n) c = record { card = withDone (withQueue c emptyQueue) false; number = n }
+-- the settings when the queue was read as one packet: what it says is set, and nothing if it is refused
+unfoldable pub settingsTaken : Queue → Settings → Settings
+settingsTaken q s = pick (eqb (ackRefusal q) 0) (applied (packetIn (queued q)) s) s
 
--- what stands in the queue
-abbrev pub queued : Card → List ℕ
-queued c = take (c .queue .fill) (c .queue .bytes)
+-- and the card: the queue is empty, and the done bit set after acceptance and clear after refusal
+abbrev pub taken : Card → Card
+taken c = withDone (withSettings (withQueue c emptyQueue) (settingsTaken (c .queue) (c .settings))) (eqb (ackRefusal (c .queue)) 0)
+
+-- bit 0 clears the done bit
+abbrev pub doneCleared : ℕ → Card → Card
+doneCleared v c = pick (bit 1 v) (withDone c false) c
 
 -- writing ACK: bit 0 clears the done bit; bit 7 then has the queue read as one packet
 unfoldable pub acknowledged : Card → ℕ → Answer
-acknowledged c v =
-    pick (bit 128 v) (taken (readPacket (queued c)) (pick (bit 1 v) (withDone c false) c))
-    (record { card = pick (bit 1 v) (withDone c false) c; number = 0 })
+acknowledged c v = pick (bit 128 v) (answer (taken (doneCleared v c)) (ackRefusal (c .queue))) (answer (doneCleared v c) 0)

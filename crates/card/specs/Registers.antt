@@ -1,31 +1,38 @@
 -- Registers, input edges and the interrupt line.
-use Prim.Native.Nat.{ℕ, _+_, _-_, _%_}
+use Prim.Native.Nat.{ℕ, _-_, _%_}
 use mathlib.Core.Bool.{Bool, true, false, _&&_, not}
 use mathlib.Core.List.{List, [], _∷_}
-use lib.ListN.{getD, set}
+use lib.ListN.{getD}
 use lib.Dec.{leb, ltb, eqb}
 use Rattle.wire.specs.Digits.{pick}
 use Rattle.wire.specs.Numbers.{_if_, given}
 use Rattle.wire.specs.Words.{wordsOf}
-use Rattle.card.specs.declared.card.Queue.{Queue}
+use Rattle.clock.specs.declared.time.Time.{Time}
+use Rattle.parts.specs.Pending.{bit}
+use Rattle.parts.specs.Events.{withControl, withLatch}
+use Rattle.parts.specs.Interrupts.{interruptsWritten, eventRaised, lineUp}
+use Rattle.parts.specs.Queues.{enqueued}
 use Rattle.card.specs.declared.card.Card.{Card}
 use Rattle.card.specs.declared.card.Answer.{Answer}
 use Rattle.card.specs.declared.registers.Value.{Value}
-use Rattle.card.specs.declared.registers.Interrupt.{Interrupt}
-use Rattle.card.specs.Cards.{withTimeLatch, withEventLatch, withControl, withMask, withPending, withLevel, withVector, withQueue}
-use Rattle.card.specs.Pending.{bit, raised, cleared, meet}
+use Rattle.card.specs.declared.registers.InterruptLine.{InterruptLine}
+use Rattle.card.specs.Cards.{answer, granted, withTimeLatch, withEvent, withInterrupts, withQueue}
 use Rattle.card.specs.Lawful.{lawful}
 use Rattle.card.specs.Packets.{acknowledged}
 
-abbrev pub answer : Card → ℕ → Answer
-answer c n = record { card = c; number = n }
+-- the last register's number
+abbrev pub lastRegister : ℕ
+lastRegister = 17
 
 abbrev pub value : Card → ℕ → ℕ → Value
 value c n v = record { card = c; number = n; value = v }
 
--- the words of the card's time
+-- the words of a time, and of the card's
+abbrev pub wordsAt : Time → List ℕ
+wordsAt t = wordsOf (t .day) (t .tick .ticks)
+
 abbrev pub wordsNow : Card → List ℕ
-wordsNow c = wordsOf (c .time .day) (c .time .tick .ticks)
+wordsNow c = wordsAt (c .clock .time)
 
 -- READING
 
@@ -34,7 +41,7 @@ unfoldable pub readRefusal : Bool → ℕ → ℕ
 readRefusal known reg =
     given
     (18 if not known
-    ∷ 1 if ltb 17 reg
+    ∷ 1 if ltb lastRegister reg
     ∷ 2 if eqb reg 13
     ∷ [])
 
@@ -43,13 +50,13 @@ unfoldable pub shown : Card → ℕ → ℕ
 shown c reg =
     pick (eqb reg 0) 0
     (pick (leb reg 5) (getD (c .«time_latch») (reg - 1) 0)
-    (pick (leb reg 10) (getD (c .«event_latch») (reg - 6) 0)
-    (pick (eqb reg 11) (c .control)
+    (pick (leb reg 10) (getD (c .event .latch) (reg - 6) 0)
+    (pick (eqb reg 11) (c .event .control)
     (pick (eqb reg 12) (pick (c .done) 1 0)
-    (pick (eqb reg 14) (c .mask)
-    (pick (eqb reg 15) (c .pending)
-    (pick (eqb reg 16) (c .level)
-    (c .vector))))))))
+    (pick (eqb reg 14) (c .interrupts .mask)
+    (pick (eqb reg 15) (c .interrupts .pending)
+    (pick (eqb reg 16) (c .interrupts .level)
+    (c .interrupts .vector))))))))
 
 -- reading TIMEREQ latches the time; no other reading changes anything
 unfoldable pub readRegister : Card → ℕ → Value
@@ -63,29 +70,19 @@ unfoldable pub writeRefusal : Bool → ℕ → ℕ → ℕ
 writeRefusal known reg fill =
     given
     (18 if not known
-    ∷ 1 if ltb 17 reg
+    ∷ 1 if ltb lastRegister reg
     ∷ 2 if (leb 1 reg && leb reg 10)
     ∷ 3 if (eqb reg 13 && eqb fill 64)
     ∷ [])
-
--- the low byte joins the queue
-abbrev pub enqueued : Queue → ℕ → Queue
-enqueued q b = record { bytes = set (q .bytes) (q .fill) b; fill = q .fill + 1 }
-
-abbrev pub joined : Card → ℕ → Card
-joined c v = withQueue c (enqueued (c .queue) (v % 256))
 
 -- what a register does with a value; bits not named are ignored
 unfoldable pub written : Card → ℕ → ℕ → Answer
 written c reg v =
     pick (eqb reg 0) (answer (withTimeLatch c (wordsNow c)) 0)
-    (pick (eqb reg 11) (answer (withControl c (v % 4)) 0)
+    (pick (eqb reg 11) (answer (withEvent c (withControl (c .event) (v % 4))) 0)
     (pick (eqb reg 12) (acknowledged c v)
-    (pick (eqb reg 13) (answer (joined c v) 0)
-    (pick (eqb reg 14) (answer (withMask c (v % 32)) 0)
-    (pick (eqb reg 15) (answer (withPending c (cleared v (c .pending))) 0)
-    (pick (eqb reg 16) (answer (withLevel c (v % 8)) 0)
-    (answer (withVector c (v % 256)) 0)))))))
+    (pick (eqb reg 13) (answer (withQueue c (enqueued (c .queue) (v % 256))) 0)
+    (answer (withInterrupts c (interruptsWritten (c .interrupts) reg v)) 0))))
 
 unfoldable pub writeRegister : Card → ℕ → ℕ → Answer
 writeRegister c reg v =
@@ -97,24 +94,24 @@ writeRegister c reg v =
 unfoldable pub captures : ℕ → Bool → Bool
 captures control falling = bit 1 control && pick falling (bit 2 control) (not (bit 2 control))
 
--- a captured edge copies the time to the event latch and raises pending bit 0; any other changes nothing
+-- a captured edge copies the time to the event latch and raises pending bit 0
+abbrev pub captured : Card → Card
+captured c = withInterrupts (withEvent c (withLatch (c .event) (wordsNow c))) (eventRaised (c .interrupts))
+
+-- any other edge changes nothing
 unfoldable pub edge : Card → Bool → Answer
-edge c falling =
-    pick (lawful c)
-    (pick (captures (c .control) falling) (answer (withPending (withEventLatch c (wordsNow c)) (raised 1 true (c .pending))) 0) (answer c 0))
-    (answer c 18)
+edge c falling = granted (18 if not (lawful c) ∷ []) c (pick (captures (c .event .control) falling) (captured c) c)
 
 -- THE LINE
 
--- up exactly if LEVEL is not 0 and some pending bit is also set in MASK
-unfoldable pub lineUp : Card → Bool
-lineUp c = not (eqb (c .level) 0) && meet (c .pending) (c .mask)
+abbrev pub interruptLine : ℕ → Bool → ℕ → ℕ → InterruptLine
+interruptLine n up level vector = record { number = n; up = up; level = level; vector = vector }
 
--- LEVEL 1 to 7 is IRQ1 to IRQ7; a line that is down has no level and no vector
-unfoldable pub line : Card → Interrupt
+unfoldable pub lineRefusal : Card → ℕ
+lineRefusal c = given (18 if not (lawful c) ∷ [])
+
+-- up exactly if LEVEL is not 0 and some pending bit is also set in MASK; LEVEL 1 to 7 is IRQ1 to IRQ7; a line that is down has no level and no vector
+unfoldable pub line : Card → InterruptLine
 line c =
-    pick (lawful c)
-    (pick (lineUp c)
-    (record { number = 0; up = true; level = c .level; vector = c .vector })
-    (record { number = 0; up = false; level = 0; vector = 0 }))
-    (record { number = 18; up = false; level = 0; vector = 0 })
+    pick (lawful c && lineUp (c .interrupts)) (interruptLine 0 true (c .interrupts .level) (c .interrupts .vector))
+    (interruptLine (lineRefusal c) false 0 0)

@@ -3,16 +3,22 @@ use crate::card::Answer;
 use crate::card::Card;
 use crate::lawful::is_lawful;
 use crate::packets::acknowledge;
-use crate::pending::clear;
-use crate::pending::raise;
-use crate::pending::some_meet;
+use clock::time::Time;
+use parts::interrupts::is_up;
+use parts::interrupts::raise_event;
+use parts::interrupts::write_interrupts;
+use wire::numbers;
 use wire::words::words_of;
 ghost use mathlib.Core.Path.{_≡_};
 ghost use mathlib.Core.Bool.{true};
 ghost use Prim.Native.Nat.{_≤_, _<_};
 ghost use lib.ListN.{getD, set};
+ghost use Rattle.clock.specs.Time.{timeLawful};
 ghost use Rattle.card.specs.Lawful.{lawful};
-ghost use Rattle.card.specs.Registers.{wordsNow, readRefusal, shown, readRegister, written, writeRefusal, writeRegister, captures, edge, line};
+ghost use Rattle.card.specs.Registers.{wordsAt, readRefusal, shown, readRegister, writeRefusal, writeRegister, captures, edge, line};
+
+// The last register's number.
+pub const LAST_REGISTER: u8 = 17;
 
 // What reading a register answers: the card afterwards, the number and the value, 0 beside a refusal.
 pub struct Value {
@@ -22,19 +28,19 @@ pub struct Value {
 }
 
 // The interrupt line: its number, whether it is up, and if it is, the level and the vector.
-pub struct Interrupt {
+pub struct InterruptLine {
     pub number: u8,
     pub up: bool,
     pub level: u8,
     pub vector: u8,
 }
 
-// The words of a lawful card's time.
-fn words_now(card: Card) -> [u16; 5]
-    requires { ⌜ lawful card ≡ true ⌝ }
-    ensures { λ r. ⌜ r ≡ wordsNow card ⌝ }
+// The words of a lawful time.
+fn words_at(time: Time) -> [u16; 5]
+    requires { ⌜ timeLawful time ≡ true ⌝ }
+    ensures { λ r. ⌜ r ≡ wordsAt time ⌝ }
 {
-    words_of(card.time.day, card.time.tick)
+    words_of(time.day, time.tick)
 }
 
 // The number that refuses a reading, 0 if none does.
@@ -42,15 +48,15 @@ fn read_refusal(known: bool, reg: u8) -> u8
     ensures { λ r. ⌜ r ≡ readRefusal known reg ⌝ }
 {
     if !known {
-        return 18;
+        return numbers::UNLAWFUL;
     }
-    if 17 < reg {
-        return 1;
+    if LAST_REGISTER < reg {
+        return numbers::NO_REGISTER;
     }
     if reg == 13 {
-        return 2;
+        return numbers::WRONG_DIRECTION;
     }
-    0
+    numbers::DONE
 }
 
 // A word of a latch.
@@ -73,16 +79,16 @@ fn show(card: Card, reg: u8) -> u16
         return latch_word(words, (reg - 1) as usize);
     }
     if reg <= 10 {
-        let words = card.event_latch;
+        let words = card.event.latch;
         return latch_word(words, (reg - 6) as usize);
     }
     match reg {
-        11 => card.control as u16,
+        11 => card.event.control as u16,
         12 => if card.done { 1 } else { 0 },
-        14 => card.mask as u16,
-        15 => card.pending as u16,
-        16 => card.level as u16,
-        _ => card.vector as u16,
+        14 => card.interrupts.mask as u16,
+        15 => card.interrupts.pending as u16,
+        16 => card.interrupts.level as u16,
+        _ => card.interrupts.vector as u16,
     }
 }
 
@@ -91,7 +97,7 @@ pub fn read_register(card: Card, reg: u8) -> Value
     ensures { λ r. ⌜ r ≡ readRegister card reg ⌝ }
 {
     let number = read_refusal(is_lawful(card), reg);
-    if number != 0 {
+    if number != numbers::DONE {
         return Value {
             card: card,
             number: number,
@@ -100,18 +106,19 @@ pub fn read_register(card: Card, reg: u8) -> Value
     }
     let value = show(card, reg);
     if reg == 0 {
-        let words = words_now(card);
+        let time = card.clock.time;
+        let words = words_at(time);
         let mut latched = card;
         latched.time_latch = words;
         return Value {
             card: latched,
-            number: 0,
+            number: numbers::DONE,
             value: value,
         };
     }
     Value {
         card: card,
-        number: 0,
+        number: numbers::DONE,
         value: value,
     }
 }
@@ -121,58 +128,54 @@ fn write_refusal(known: bool, reg: u8, fill: usize) -> u8
     ensures { λ r. ⌜ r ≡ writeRefusal known reg fill ⌝ }
 {
     if !known {
-        return 18;
+        return numbers::UNLAWFUL;
     }
-    if 17 < reg {
-        return 1;
+    if LAST_REGISTER < reg {
+        return numbers::NO_REGISTER;
     }
     if reg == 0 {
-        return 0;
+        return numbers::DONE;
     }
     if reg <= 10 {
-        return 2;
+        return numbers::WRONG_DIRECTION;
     }
     if reg == 13 {
         if fill == 64 {
-            return 3;
+            return numbers::QUEUE_FULL;
         }
     }
-    0
+    numbers::DONE
 }
 
-// What any register but FIFO does with a value, of a lawful card.
-pub(crate) fn write_lawful(card: Card, reg: u8, value: u16) -> Answer
-    requires { ⌜ (lawful card ≡ true) × (reg ≡ 13 → ⊥) ⌝ }
-    ensures { λ r. ⌜ r ≡ written card reg value ⌝ }
+// Writes any register but FIFO, of a card known to be lawful or not. One way out, so that the card is copied once.
+fn write_other(card: Card, known: bool, reg: u8, value: u16) -> Answer
+    requires { ⌜ (known ≡ lawful card) × (reg ≡ 13 → ⊥) ⌝ }
+    ensures { λ r. ⌜ r ≡ writeRegister card reg value ⌝ }
 {
     let mut c = card;
-    match reg {
-        0 => {
-            let words = words_now(card);
-            c.time_latch = words;
-            Answer { card: c, number: 0 }
+    let number = write_refusal(known, reg, card.queue.fill);
+    if number == numbers::DONE {
+        match reg {
+            0 => {
+                let time = card.clock.time;
+                let words = words_at(time);
+                c.time_latch = words;
+            }
+            11 => {
+                let control = (value % 4) as u8;
+                c.event.control = control;
+            }
+            12 => return acknowledge(card, value),
+            _ => {
+                let interrupts = card.interrupts;
+                let interrupts = write_interrupts(interrupts, reg, value);
+                c.interrupts = interrupts;
+            }
         }
-        11 => {
-            c.control = (value % 4) as u8;
-            Answer { card: c, number: 0 }
-        }
-        12 => acknowledge(card, value),
-        14 => {
-            c.mask = (value % 32) as u8;
-            Answer { card: c, number: 0 }
-        }
-        15 => {
-            c.pending = clear(value, card.pending);
-            Answer { card: c, number: 0 }
-        }
-        16 => {
-            c.level = (value % 8) as u8;
-            Answer { card: c, number: 0 }
-        }
-        _ => {
-            c.vector = (value % 256) as u8;
-            Answer { card: c, number: 0 }
-        }
+    }
+    Answer {
+        card: c,
+        number: number,
     }
 }
 
@@ -189,17 +192,17 @@ fn write_fifo(card: Card, value: u16) -> Answer
     ensures { λ r. ⌜ r ≡ writeRegister card 13 value ⌝ }
 {
     let mut c = card;
-    let mut number: u8 = 0;
+    let mut number: u8 = numbers::DONE;
     if is_lawful(card) {
         let fill = card.queue.fill;
         if fill == 64 {
-            number = 3;
+            number = numbers::QUEUE_FULL;
         } else {
             store(&mut c.queue.bytes, fill, (value % 256) as u8);
             c.queue.fill = fill + 1;
         }
     } else {
-        number = 18;
+        number = numbers::UNLAWFUL;
     }
     Answer {
         card: c,
@@ -214,14 +217,7 @@ pub fn write_register(card: Card, reg: u8, value: u16) -> Answer
     if reg == 13 {
         return write_fifo(card, value);
     }
-    let number = write_refusal(is_lawful(card), reg, card.queue.fill);
-    if number != 0 {
-        return Answer {
-            card: card,
-            number: number,
-        };
-    }
-    write_lawful(card, reg, value)
+    write_other(card, is_lawful(card), reg, value)
 }
 
 // Whether an edge is captured: capture is on, and the edge is of the chosen kind.
@@ -245,41 +241,48 @@ pub fn input_edge(card: Card, falling: bool) -> Answer
     if !is_lawful(card) {
         return Answer {
             card: c,
-            number: 18,
+            number: numbers::UNLAWFUL,
         };
     }
-    if is_captured(card.control, falling) {
-        let words = words_now(card);
-        c.event_latch = words;
-        c.pending = raise(card.pending, 1, true);
+    if is_captured(card.event.control, falling) {
+        let time = card.clock.time;
+        let words = words_at(time);
+        let interrupts = card.interrupts;
+        let interrupts = raise_event(interrupts);
+        let mut event = card.event;
+        event.latch = words;
+        c.event = event;
+        c.interrupts = interrupts;
     }
-    Answer { card: c, number: 0 }
+    Answer {
+        card: c,
+        number: numbers::DONE,
+    }
 }
 
 // The interrupt line: up exactly if LEVEL is not 0 and some pending bit is also set in MASK.
-pub fn interrupt_line(card: Card) -> Interrupt
+pub fn interrupt_line(card: Card) -> InterruptLine
     ensures { λ r. ⌜ r ≡ line card ⌝ }
 {
     if !is_lawful(card) {
-        return Interrupt {
-            number: 18,
+        return InterruptLine {
+            number: numbers::UNLAWFUL,
             up: false,
             level: 0,
             vector: 0,
         };
     }
-    if card.level != 0 {
-        if some_meet(card.pending, card.mask) {
-            return Interrupt {
-                number: 0,
-                up: true,
-                level: card.level,
-                vector: card.vector,
-            };
-        }
+    let interrupts = card.interrupts;
+    if is_up(interrupts) {
+        return InterruptLine {
+            number: numbers::DONE,
+            up: true,
+            level: interrupts.level,
+            vector: interrupts.vector,
+        };
     }
-    Interrupt {
-        number: 0,
+    InterruptLine {
+        number: numbers::DONE,
         up: false,
         level: 0,
         vector: 0,

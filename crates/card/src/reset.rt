@@ -1,13 +1,17 @@
 // Reset, and a fresh card.
 use crate::card::Answer;
 use crate::card::Card;
-use crate::card::Periodic;
-use crate::card::Settings;
-use crate::card::Strobe;
 use crate::lawful::is_lawful;
-use crate::packets::empty_queue;
-use crate::time::Time;
-use wire::packets::Clock;
+use clock::clock::Clock;
+use clock::clock::Periodic;
+use clock::clock::Strobe;
+use clock::time::Time;
+use parts::event::Event;
+use parts::interrupts::Interrupts;
+use parts::queue::empty_queue;
+use parts::settings::Settings;
+use wire::numbers;
+use wire::packets::ClockSource;
 use wire::packets::Format;
 use wire::packets::Generator;
 use wire::packets::Modulation;
@@ -25,26 +29,32 @@ fn reset_card(time: Time, settings: Settings) -> Card
     let generator = settings.generator;
     let queue = empty_queue();
     Card {
-        time: time,
-        time_latch: [0, 0, 0, 0, 0],
-        event_latch: [0, 0, 0, 0, 0],
-        control: 0,
-        done: false,
-        mask: 0,
-        pending: 0,
-        level: 0,
-        vector: 0,
         queue: queue,
+        clock: Clock {
+            time: time,
+            strobe: Strobe::Off,
+            periodic: Periodic::Off,
+        },
+        time_latch: [0, 0, 0, 0, 0],
+        event: Event {
+            control: 0,
+            latch: [0, 0, 0, 0, 0],
+        },
         settings: Settings {
             mode: mode,
             format: format,
             modulation: modulation,
-            clock: Clock::Internal,
+            clock: ClockSource::Internal,
             generator: generator,
             offset: 0,
         },
-        strobe: Strobe::Off,
-        periodic: Periodic::Off,
+        interrupts: Interrupts {
+            mask: 0,
+            pending: 0,
+            level: 0,
+            vector: 0,
+        },
+        done: false,
     }
 }
 
@@ -55,13 +65,16 @@ pub fn reset(card: Card) -> Answer
     if !is_lawful(card) {
         return Answer {
             card: card,
-            number: 18,
+            number: numbers::UNLAWFUL,
         };
     }
-    let time = card.time;
+    let time = card.clock.time;
     let settings = card.settings;
     let c = reset_card(time, settings);
-    Answer { card: c, number: 0 }
+    Answer {
+        card: c,
+        number: numbers::DONE,
+    }
 }
 
 // A reset card with year 1, day 1, tick 0, mode 0, format B, modulation M, generator B.
@@ -77,7 +90,7 @@ pub fn fresh_card() -> Card
         mode: 0,
         format: Format::B,
         modulation: Modulation::M,
-        clock: Clock::Internal,
+        clock: ClockSource::Internal,
         generator: Generator::B,
         offset: 0,
     };

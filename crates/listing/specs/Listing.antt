@@ -7,7 +7,7 @@ use lib.ListN.{length, take, drop, replicate}
 use lib.Dec.{leb, ltb, eqb}
 use Rattle.wire.specs.Digits.{pick, digits, below}
 use Rattle.wire.specs.Packets.{ascii}
-use Rattle.card.specs.declared.card.Queue.{Queue}
+use Rattle.parts.specs.declared.queue.Queue.{Queue}
 use Rattle.card.specs.declared.card.Card.{Card}
 use Rattle.card.specs.Registers.{writeRegister}
 use Rattle.card.specs.Reset.{freshCard}

@@ -1,9 +1,9 @@
 // Feeding an input part by part: each byte to FIFO of its piece's own fresh card, and 0x80 to ACK where the piece ends.
 use crate::lines::put_line;
 use card::card::Card;
-use card::card::Queue;
 use card::registers::write_register;
 use card::reset::fresh_card;
+use parts::queue::Queue;
 ghost use mathlib.Core.Path.{_≡_};
 ghost use mathlib.Core.Bool.{_||_};
 ghost use Prim.Native.Nat.{_+_, _≤_, _<_};

@@ -1,4 +1,5 @@
-// Each number of the table, through a call that gives it, and beside it a call that does not: one line each, `what number`.
+// Each number of the table, through the call that gives it, and beside it a call that does not: the cases stand in `stdin`, a line each, and
+// `tests/refusals.py` says how a line is written. Out comes what the case says of itself, and the number.
 use card::card::Card;
 use card::registers::input_edge;
 use card::registers::interrupt_line;
@@ -8,12 +9,13 @@ use card::reset::fresh_card;
 use card::reset::reset;
 use card::saved::load;
 use card::saved::save;
-use card::setting::Dividers;
-use card::setting::StrobeAt;
 use card::setting::set_periodic;
 use card::setting::set_strobe;
 use card::setting::set_time;
 use card::waiting::wait;
+use clock::setting::Dividers;
+use clock::setting::StrobeAt;
+use libc::STDIN_FILENO;
 use libc::STDOUT_FILENO;
 use wire::packets::Format;
 use wire::packets::Modulation;
@@ -22,26 +24,62 @@ use wire::packets::write_packet;
 use wire::time::Ticks;
 use wire::words::read_words;
 use wire::words::write_words;
+ghost use Prim.Native.Nat.{_≤_};
 
-fn say(what: &[u8], number: u8) {
-    io::write_all(STDOUT_FILENO, what);
-    io::print_decimal(STDOUT_FILENO, number as u64);
-    io::write_all(STDOUT_FILENO, b"\n");
+// THE ARGUMENTS OF A CASE
+
+// The byte whose two digits stand at a place; 0 behind the end.
+fn byte_at(text: &[u8], at: usize) -> u8 {
+    if at < text.len() {
+        if 1 < text.len() - at {
+            return text[at] % 16 * 16 + text[at + 1] % 16;
+        }
+    }
+    0
 }
 
+fn two(a: u8, b: u8) -> u16 {
+    (a as u16) * 256 + (b as u16)
+}
+
+fn four(a: u16, b: u16) -> u32 {
+    (a as u32) * 65_536 + (b as u32)
+}
+
+fn two_at(text: &[u8], at: usize) -> u16
+    requires { ⌜ at ≤ 100 ⌝ }
+{
+    two(byte_at(text, at), byte_at(text, at + 2))
+}
+
+fn four_at(text: &[u8], at: usize) -> u32
+    requires { ⌜ at ≤ 90 ⌝ }
+{
+    four(two_at(text, at), two_at(text, at + 4))
+}
+
+// Five bytes.
+fn ticks_at(text: &[u8], at: usize) -> Ticks
+    requires { ⌜ at ≤ 80 ⌝ }
+{
+    let high = byte_at(text, at);
+    let low = four_at(text, at + 2);
+    Ticks {
+        ticks: (high as u64) * 4_294_967_296 + (low as u64),
+    }
+}
+
+// THE CARDS
+
 // A fresh card with these bytes written to FIFO, one by one.
-fn fed(bytes: &[u8]) -> Card {
+fn fed(text: &[u8], count: usize) -> Card {
     let mut c = fresh_card();
-    for i in 0..bytes.len() {
-        let a = write_register(c, 13, bytes[i] as u16);
+    for i in 0..count {
+        let b = byte_at(text, i % 1_000_000 * 2);
+        let a = write_register(c, 13, b as u16);
         c = a.card;
     }
     c
-}
-
-// What ACK answers to these bytes.
-fn ack(bytes: &[u8]) -> u8 {
-    write_register(fed(bytes), 12, 0x80).number
 }
 
 // A card that no call of ours leaves: mode 4.
@@ -51,306 +89,229 @@ fn torn() -> Card {
     c
 }
 
-fn registers() {
-    say(
-        b"read register 17: ",
-        read_register(fresh_card(), 17).number,
-    );
-    say(
-        b"read register 18: ",
-        read_register(fresh_card(), 18).number,
-    );
-    say(b"read FIFO: ", read_register(fresh_card(), 13).number);
-    say(
-        b"write register 18: ",
-        write_register(fresh_card(), 18, 0).number,
-    );
-    say(b"write TIME0: ", write_register(fresh_card(), 1, 0).number);
-    say(
-        b"write EVENT4: ",
-        write_register(fresh_card(), 10, 0).number,
-    );
-    say(
-        b"write CONTROL: ",
-        write_register(fresh_card(), 11, 0xFFFF).number,
-    );
-    let full = fed(&[0; 64]);
-    say(
-        b"64 bytes in FIFO, one more: ",
-        write_register(full, 13, 0).number,
-    );
-    say(b"the same, ACK: ", write_register(full, 12, 0x80).number);
+fn in_the_last_second() -> Card {
+    let a = set_time(fresh_card(), 9999, 365, 23, 59, 59);
+    let c = a.card;
+    c
 }
 
-fn packets() {
-    say(b"empty queue: ", ack(b""));
-    say(b"first byte 02: ", ack(b"\x02A0\x17"));
-    say(
-        b"40 bytes and then 17: ",
-        ack(b"\x01A00000000000000000000000000000000000000\x17"),
-    );
-    say(
-        b"41 bytes and then 17: ",
-        ack(b"\x01A000000000000000000000000000000000000000\x17"),
-    );
-    say(
-        b"41 bytes: ",
-        ack(b"\x01A000000000000000000000000000000000000000"),
-    );
-    say(
-        b"40 bytes: ",
-        ack(b"\x01A00000000000000000000000000000000000000"),
-    );
-    say(b"a lone 01: ", ack(b"\x01"));
-    say(b"no id: ", ack(b"\x01\x17"));
-    say(b"id a: ", ack(b"\x01a0\x17"));
-    say(b"A with two digits: ", ack(b"\x01A44\x17"));
-    say(b"A 8: ", ack(b"\x01A8\x17"));
-    say(b"H A Q: ", ack(b"\x01HAQ\x17"));
-    say(b"A 4: ", ack(b"\x01A4\x17"));
-    say(b"A 7: ", ack(b"\x01A7\x17"));
-    say(b"H A M: ", ack(b"\x01HAM\x17"));
-    say(b"H C D: ", ack(b"\x01HCD\x17"));
-    say(b"H X D: ", ack(b"\x01HXD\x17"));
-    say(b"A 6: ", ack(b"\x01A6\x17"));
-    say(b"H A D and more: ", ack(b"\x01HAD\x17\x01\x02\x03"));
-    say(b"G -0000000: ", ack(b"\x01G-0000000\x17"));
-    say(b"K H: ", ack(b"\x01KH\x17"));
-    say(b"I E: ", ack(b"\x01IE\x17"));
+// The card that a digit names.
+fn card_of(digit: u8) -> Card {
+    match digit {
+        b'1' => fed(b"", 64),
+        b'2' => in_the_last_second(),
+        b'3' => torn(),
+        _ => fresh_card(),
+    }
 }
 
-fn writing() {
-    let mut row = [0u8; 11];
-    say(
-        b"write mode 8: ",
-        write_packet(Packet::A(8), &mut row).number,
-    );
-    say(
-        b"write offset 10000000: ",
-        write_packet(Packet::G(10_000_000), &mut row).number,
-    );
-    say(
-        b"write mode 4: ",
-        write_packet(Packet::A(4), &mut row).number,
-    );
-    say(
-        b"write H C D: ",
-        write_packet(Packet::H(Format::C, Modulation::D), &mut row).number,
-    );
-    say(
-        b"write offset -9999999 into 11 places: ",
-        write_packet(Packet::G(-9_999_999), &mut row).number,
-    );
-    let mut short = [0u8; 10];
-    say(
-        b"the same into 10: ",
-        write_packet(Packet::G(-9_999_999), &mut short).number,
-    );
+// THE CALLS
+
+fn times(card: Card, text: &[u8]) -> u8 {
+    let year = two_at(text, 0);
+    let day = two_at(text, 4);
+    let hour = two_at(text, 8);
+    let minute = two_at(text, 12);
+    let second = two_at(text, 16);
+    set_time(card, year, day, hour, minute, second).number
 }
 
-fn words() {
-    say(
-        b"words of day 0: ",
-        write_words(0, Ticks { ticks: 0 }).number,
-    );
-    say(
-        b"words of day 366: ",
-        write_words(
-            366,
-            Ticks {
-                ticks: 863_999_999_999,
-            },
-        ).number,
-    );
-    say(
-        b"words of tick 864000000000: ",
-        write_words(
-            1,
-            Ticks {
-                ticks: 864_000_000_000,
-            },
-        ).number,
-    );
-    say(
-        b"a spare digit: ",
-        read_words([0x0010, 0x0100, 0, 0, 0]).number,
-    );
-    say(b"a last digit: ", read_words([0, 0x0100, 0, 0, 1]).number);
-    say(
-        b"hour 24 and digit A: ",
-        read_words([0, 0x0124, 0, 0, 0xA000]).number,
-    );
-    say(b"hour 24: ", read_words([0, 0x0124, 0, 0, 0]).number);
-    say(b"day 367: ", read_words([3, 0x6700, 0, 0, 0]).number);
-    say(
-        b"day 366, 23:59:59.9999999: ",
-        read_words([3, 0x6623, 0x5959, 0x9999, 0x9990]).number,
-    );
+fn dividers(card: Card, text: &[u8]) -> u8 {
+    let n1 = four_at(text, 0);
+    let n2 = four_at(text, 8);
+    set_periodic(card, Dividers::By(n1, n2)).number
 }
 
-fn settings() {
-    say(
-        b"day 366 of 2001: ",
-        set_time(fresh_card(), 2001, 366, 0, 0, 0).number,
-    );
-    say(
-        b"day 366 of 2004: ",
-        set_time(fresh_card(), 2004, 366, 23, 59, 59).number,
-    );
-    say(
-        b"year 10000: ",
-        set_time(fresh_card(), 10000, 1, 0, 0, 0).number,
-    );
-    say(
-        b"second 60: ",
-        set_time(fresh_card(), 2004, 1, 0, 0, 60).number,
-    );
-    say(
-        b"dividers 1 and 2: ",
-        set_periodic(fresh_card(), Dividers::By(1, 2)).number,
-    );
-    say(
-        b"dividers 2 and 65536: ",
-        set_periodic(fresh_card(), Dividers::By(2, 65_536)).number,
-    );
-    say(
-        b"dividers 2 and 65535: ",
-        set_periodic(fresh_card(), Dividers::By(2, 65_535)).number,
-    );
-    say(
-        b"strobe at 1000 ms: ",
-        set_strobe(fresh_card(), StrobeAt::EachSecond(1000)).number,
-    );
-    say(
-        b"strobe at 999 ms: ",
-        set_strobe(fresh_card(), StrobeAt::EachSecond(999)).number,
-    );
-}
-
-fn waits() {
+fn waited(card: Card, ticks: Ticks) -> u8 {
     let mut row = [0u64; 1];
-    let mut gone = [0u64; 1];
+    wait(card, ticks, &mut row).waited.number
+}
+
+fn waited_without_places(card: Card) -> u8 {
+    let mut row = [0u64; 1];
     let none: usize = 0;
-    let end = set_time(fresh_card(), 9999, 365, 23, 59, 59).card;
-    say(
-        b"wait of a day and a tick: ",
-        wait(
-                fresh_card(),
-                Ticks {
-                    ticks: 864_000_000_001,
-                },
-                &mut row,
-            ).waited
-            .number,
-    );
-    say(
-        b"wait of a day: ",
-        wait(
-                fresh_card(),
-                Ticks {
-                    ticks: 864_000_000_000,
-                },
-                &mut row,
-            ).waited
-            .number,
-    );
-    say(
-        b"wait of 0 with no places: ",
-        wait(fresh_card(), Ticks { ticks: 0 }, &mut gone[none..none]).waited
-            .number,
-    );
-    say(
-        b"wait past year 9999: ",
-        wait(end, Ticks { ticks: 10_000_000 }, &mut row).waited
-            .number,
-    );
-    say(
-        b"wait to its last tick: ",
-        wait(end, Ticks { ticks: 9_999_999 }, &mut row).waited
-            .number,
-    );
+    wait(card, Ticks { ticks: 0 }, &mut row[none..none]).waited
+        .number
 }
 
-fn saved() {
+fn saved_in_5(card: Card) -> u8 {
     let mut row = [0u8; 5];
-    let mut short = [0u8; 4];
-    say(b"save into 4 places: ", save(fresh_card(), &mut short));
-    say(b"save into 5 places: ", save(fresh_card(), &mut row));
-    say(b"load what was saved: ", load(fresh_card(), &row).number);
-    say(
-        b"load 4 bytes: ",
-        load(fresh_card(), &[0x04, 0, 0, 0]).number,
-    );
-    say(
-        b"load a spare bit: ",
-        load(fresh_card(), &[0x04, 0, 0, 0, 1]).number,
-    );
-    say(
-        b"load minus zero: ",
-        load(fresh_card(), &[0x04, 0x40, 0, 0, 0]).number,
-    );
-    say(
-        b"load mode 4: ",
-        load(fresh_card(), &[0x84, 0, 0, 0, 0]).number,
-    );
-    say(
-        b"load format 5: ",
-        load(fresh_card(), &[0x14, 0, 0, 0, 0]).number,
-    );
-    say(
-        b"load A with M: ",
-        load(fresh_card(), &[0, 0, 0, 0, 0]).number,
-    );
+    save(card, &mut row)
 }
 
-fn torn_card() {
-    let mut row = [0u64; 1];
-    let mut bytes = [0u8; 1];
-    say(
-        b"torn card, read register 99: ",
-        read_register(torn(), 99).number,
-    );
-    say(
-        b"torn card, write ACK: ",
-        write_register(torn(), 12, 0x81).number,
-    );
-    say(b"torn card, edge: ", input_edge(torn(), true).number);
-    say(b"torn card, line: ", interrupt_line(torn()).number);
-    say(
-        b"torn card, set time: ",
-        set_time(torn(), 0, 0, 0, 0, 0).number,
-    );
-    say(
-        b"torn card, strobe: ",
-        set_strobe(torn(), StrobeAt::Off).number,
-    );
-    say(
-        b"torn card, periodic: ",
-        set_periodic(torn(), Dividers::Off).number,
-    );
-    say(b"torn card, reset: ", reset(torn()).number);
-    say(b"torn card, save: ", save(torn(), &mut bytes));
-    say(b"torn card, load: ", load(torn(), &bytes).number);
-    say(
-        b"torn card, wait: ",
-        wait(
-                torn(),
-                Ticks {
-                    ticks: 864_000_000_001,
-                },
-                &mut row,
-            ).waited
-            .number,
-    );
+fn saved_in_4(card: Card) -> u8 {
+    let mut row = [0u8; 4];
+    save(card, &mut row)
+}
+
+fn saved_and_loaded(card: Card) -> u8 {
+    let mut row = [0u8; 5];
+    save(card, &mut row);
+    load(card, &row).number
+}
+
+fn loaded_5(card: Card, text: &[u8]) -> u8 {
+    let row = [
+        byte_at(text, 0),
+        byte_at(text, 2),
+        byte_at(text, 4),
+        byte_at(text, 6),
+        byte_at(text, 8),
+    ];
+    load(card, &row).number
+}
+
+fn loaded_4(card: Card, text: &[u8]) -> u8 {
+    let row = [
+        byte_at(text, 0),
+        byte_at(text, 2),
+        byte_at(text, 4),
+        byte_at(text, 6),
+    ];
+    load(card, &row).number
+}
+
+// Five bytes, or the first four of them.
+fn loaded(card: Card, text: &[u8]) -> u8 {
+    if text.len() == 10 {
+        return loaded_5(card, text);
+    }
+    loaded_4(card, text)
+}
+
+// What a call answers of a card.
+fn card_number(call: u8, card: Card, text: &[u8]) -> u8 {
+    match call {
+        b'r' => read_register(card, byte_at(text, 0)).number,
+        b'w' => write_register(card, byte_at(text, 0), two_at(text, 2)).number,
+        b'e' => input_edge(card, true).number,
+        b'l' => interrupt_line(card).number,
+        b'x' => reset(card).number,
+        _ => clock_number(call, card, text),
+    }
+}
+
+fn clock_number(call: u8, card: Card, text: &[u8]) -> u8 {
+    match call {
+        b't' => times(card, text),
+        b'd' => dividers(card, text),
+        b's' => set_strobe(card, StrobeAt::EachSecond(two_at(text, 0))).number,
+        b'n' => waited(card, ticks_at(text, 0)),
+        b'z' => waited_without_places(card),
+        _ => row_number(call, card, text),
+    }
+}
+
+fn row_number(call: u8, card: Card, text: &[u8]) -> u8 {
+    match call {
+        b'b' => saved_and_loaded(card),
+        b'o' => loaded(card, text),
+        _ => if byte_at(text, 0) == 5 {
+            saved_in_5(card)
+        } else {
+            saved_in_4(card)
+        },
+    }
+}
+
+// A packet's own writing, into 11 places or 10.
+fn packet_number(p: Packet, places: u8) -> u8 {
+    let mut row = [0u8; 11];
+    let mut short = [0u8; 10];
+    if places == 11 {
+        return write_packet(p, &mut row).number;
+    }
+    write_packet(p, &mut short).number
+}
+
+fn offset(n: u32) -> i32 {
+    (n % 100_000_000) as i32
+}
+
+// What words and packets answer alone.
+fn alone_number(call: u8, text: &[u8]) -> u8 {
+    let places = byte_at(text, 8);
+    match call {
+        b'A' => packet_number(Packet::A(byte_at(text, 6)), places),
+        b'G' => packet_number(Packet::G(offset(four_at(text, 0))), places),
+        b'M' => packet_number(Packet::G(-9_999_999), places),
+        b'H' => packet_number(Packet::H(Format::C, Modulation::D), places),
+        b'f' => write_words(two_at(text, 0), ticks_at(text, 4)).number,
+        _ => words_number(text),
+    }
+}
+
+fn words_number(text: &[u8]) -> u8 {
+    let a = two_at(text, 0);
+    let b = two_at(text, 4);
+    let c = two_at(text, 8);
+    let d = two_at(text, 12);
+    let e = two_at(text, 16);
+    read_words([a, b, c, d, e]).number
+}
+
+// What ACK answers to the bytes of a case.
+fn ack(text: &[u8]) -> u8 {
+    write_register(fed(text, text.len() / 2), 12, 0x80).number
+}
+
+// THE LINES
+
+fn is_alone(call: u8) -> bool {
+    match call {
+        b'A' | b'G' | b'M' | b'H' | b'f' | b'g' => true,
+        _ => false,
+    }
+}
+
+fn number_of(call: u8, digit: u8, text: &[u8]) -> u8 {
+    if call == b'a' {
+        return ack(text);
+    }
+    if is_alone(call) {
+        return alone_number(call, text);
+    }
+    card_number(call, card_of(digit), text)
+}
+
+// A case has a letter, a digit and its arguments.
+fn number_in(case: &[u8]) -> u8 {
+    if case.len() < 2 {
+        return 0;
+    }
+    let from: usize = 2;
+    number_of(case[0], case[1], &case[from..])
+}
+
+fn say(what: &[u8], number: u8) {
+    io::write_all(STDOUT_FILENO, what);
+    io::print_decimal(STDOUT_FILENO, number as u64);
+    io::write_all(STDOUT_FILENO, b"\n");
+}
+
+// Each line up to its bar, and behind it the number of the case that stands after the bar.
+fn say_all(lines: &[u8]) {
+    let mut from: usize = 0;
+    let mut bar: usize = 0;
+    for i in 0..lines.len() {
+        if lines[i] == b'|' {
+            bar = i;
+        }
+        if lines[i] == b'\n' {
+            if from <= bar {
+                if bar < i {
+                    say(&lines[from..bar], number_in(&lines[bar + 1..i]));
+                    from = i + 1;
+                }
+            }
+        }
+    }
 }
 
 fn main() {
-    registers();
-    packets();
-    writing();
-    words();
-    settings();
-    waits();
-    saved();
-    torn_card();
+    let mut lines = io::large_buffer();
+    let got = libc::read(STDIN_FILENO, &mut lines);
+    let n = io::count(got, &lines);
+    let from: usize = 0;
+    say_all(&lines[from..n]);
 }

@@ -1,3 +1,4 @@
 pub mod Laws
 pub mod RoundTrip
 pub mod Signs
+pub mod Read

@@ -11,8 +11,8 @@ use Rattle.wire.specs.declared.packets.Format.{Format}
 use Rattle.wire.specs.declared.packets.Format.the-variants as Format
 use Rattle.wire.specs.declared.packets.Modulation.{Modulation}
 use Rattle.wire.specs.declared.packets.Modulation.the-variants as Modulation
-use Rattle.wire.specs.declared.packets.Clock.{Clock}
-use Rattle.wire.specs.declared.packets.Clock.the-variants as Clock
+use Rattle.wire.specs.declared.packets.ClockSource.{ClockSource}
+use Rattle.wire.specs.declared.packets.ClockSource.the-variants as ClockSource
 use Rattle.wire.specs.declared.packets.Generator.{Generator}
 use Rattle.wire.specs.declared.packets.Generator.the-variants as Generator
 use Rattle.wire.specs.declared.packets.Packet.{Packet}
@@ -95,9 +95,9 @@ abbrev pub letterOfModulation : Modulation → ℕ
 letterOfModulation Modulation.M = 0x4D
 letterOfModulation Modulation.D = 0x44
 
-abbrev pub letterOfClock : Clock → ℕ
-letterOfClock Clock.External = 0x45
-letterOfClock Clock.Internal = 0x49
+abbrev pub letterOfClock : ClockSource → ℕ
+letterOfClock ClockSource.External = 0x45
+letterOfClock ClockSource.Internal = 0x49
 
 abbrev pub letterOfGenerator : Generator → ℕ
 letterOfGenerator Generator.B = 0x42
@@ -159,8 +159,8 @@ formatOf b = pick (eqb b 0x41) Format.A (pick (eqb b 0x42) Format.B (pick (eqb b
 unfoldable pub modulationOf : ℕ → Modulation
 modulationOf b = pick (eqb b 0x4D) Modulation.M Modulation.D
 
-unfoldable pub clockOf : ℕ → Clock
-clockOf b = pick (eqb b 0x45) Clock.External Clock.Internal
+unfoldable pub clockOf : ℕ → ClockSource
+clockOf b = pick (eqb b 0x45) ClockSource.External ClockSource.Internal
 
 unfoldable pub generatorOf : ℕ → Generator
 generatorOf b = pick (eqb b 0x42) Generator.B Generator.H
@@ -217,15 +217,22 @@ bodyLines body =
     ∷ 10 if not (means (meaning (idIn body) (dataIn body)))
     ∷ []
 
+abbrev pub packetLines : List ℕ → List Line
+packetLines row = frameLines row ++ bodyLines (bodyOf row)
+
 unfoldable pub packetRefusal : List ℕ → ℕ
-packetRefusal row = given (frameLines row ++ bodyLines (bodyOf row))
+packetRefusal row = given (packetLines row)
+
+-- the packet that a row which is not refused holds
+abbrev pub packetIn : List ℕ → Packet
+packetIn row = meaning (idIn (bodyOf row)) (dataIn (bodyOf row))
 
 abbrev pub readAs : ℕ → Packet → PacketRead
 readAs n p = pick (eqb n 0) (PacketRead.Is p) (PacketRead.Refused n)
 
 -- what a row of bytes reads as
 unfoldable pub readPacket : List ℕ → PacketRead
-readPacket row = readAs (packetRefusal row) (meaning (idIn (bodyOf row)) (dataIn (bodyOf row)))
+readPacket row = readAs (packetRefusal row) (packetIn row)
 
 -- and what an id and data alone read as
 unfoldable pub readBody : ℕ → List ℕ → PacketRead

@@ -24,7 +24,7 @@ pub enum Modulation {
 }
 
 // Which clock the card runs on.
-pub enum Clock {
+pub enum ClockSource {
     External,
     Internal,
 }
@@ -40,7 +40,7 @@ pub enum Packet {
     A(u8),
     G(i32),
     H(Format, Modulation),
-    I(Clock),
+    I(ClockSource),
     K(Generator),
 }
 
@@ -115,12 +115,12 @@ fn modulation_letter(m: Modulation) -> u8
     }
 }
 
-fn clock_letter(c: Clock) -> u8
+fn clock_letter(c: ClockSource) -> u8
     ensures { λ r. ⌜ r ≡ letterOfClock c ⌝ }
 {
     match c {
-        Clock::External => b'E',
-        Clock::Internal => b'I',
+        ClockSource::External => b'E',
+        ClockSource::Internal => b'I',
     }
 }
 
@@ -286,8 +286,8 @@ fn read_clock(bytes: &[u8]) -> PacketRead
     }
     let b = bytes[0];
     match b {
-        69 => PacketRead::Is(Packet::I(Clock::External)),
-        73 => PacketRead::Is(Packet::I(Clock::Internal)),
+        69 => PacketRead::Is(Packet::I(ClockSource::External)),
+        73 => PacketRead::Is(Packet::I(ClockSource::Internal)),
         _ => PacketRead::Refused(numbers::WRONG_BYTE),
     }
 }

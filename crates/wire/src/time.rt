@@ -2,6 +2,9 @@
 ghost use mathlib.Core.Path.{_≡_};
 ghost use Rattle.wire.specs.Time.{ticksOf, tickAt};
 
+// The ticks of a day: a tick of day is below it.
+pub const TICKS_OF_DAY: u64 = 864_000_000_000;
+
 // A span or an instant in ticks of 100 ns.
 pub struct Ticks {
     pub ticks: u64,

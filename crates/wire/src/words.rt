@@ -2,6 +2,7 @@
 use crate::digits::pair;
 use crate::digits::two;
 use crate::numbers;
+use crate::time::TICKS_OF_DAY;
 use crate::time::Ticks;
 use crate::time::tick_at;
 ghost use mathlib.Core.Path.{_≡_};
@@ -34,7 +35,7 @@ fn is_writable(day: u16, tick: u64) -> bool
     if 366 < day {
         return false;
     }
-    tick < 864_000_000_000
+    tick < TICKS_OF_DAY
 }
 
 // The words of a time, each from two pairs of digits.

@@ -11,19 +11,25 @@ use lib.ListN.{getD, drop, set}
 use borrow.Author.Tests.{le-leb, lt-leb, lt-ltb, le-ltb, eq-eqb, ne-eqb, leb-true}
 use Rattle.wire.specs.Numbers.{given}
 use Rattle.wire.specs.Words.{writable, wordsOf, wordsOrZero}
-use Rattle.card.specs.declared.time.Time.{Time}
+use Rattle.wire.specs.Packets.{packetRefusal}
+use Rattle.clock.specs.declared.time.Time.{Time}
+use Rattle.clock.specs.Time.{timeLawful}
+use Rattle.clock.proofs.time.Laws.{in-range, days-in-year}
+use Rattle.clock.proofs.lawful.Laws as clock
+use Rattle.parts.specs.declared.queue.Queue.{Queue}
+use Rattle.parts.specs.declared.interrupts.Interrupts.{Interrupts}
 use Rattle.card.specs.declared.card.Card.{Card}
-use Rattle.card.specs.Cards.{withTimeLatch, withEventLatch, withPending, withVector, withQueue}
-use Rattle.card.specs.Time.{timeLawful}
-use Rattle.card.specs.Lawful.{lawful, queueLawful}
-use Rattle.card.specs.Registers.{readRefusal, readRegister, shown, value, answer, wordsNow, writeRefusal, writeRegister, written, captures, edge, line, lineUp}
-use Rattle.card.specs.declared.registers.Interrupt.{Interrupt}
-use Rattle.card.specs.Pending.{raised, meet}
+use Rattle.parts.specs.Events.{withLatch}
+use Rattle.parts.specs.Interrupts.{withPending, withVector, interruptsWritten, lineUp, eventRaised}
+use Rattle.card.specs.Cards.{answer, granted, withTimeLatch, withEvent, withInterrupts, withQueue}
+use Rattle.parts.specs.Queues.{queueLawful, queued}
+use Rattle.card.specs.Lawful.{lawful}
+use Rattle.card.specs.Registers.{readRefusal, readRegister, shown, value, wordsAt, wordsNow, writeRefusal, writeRegister, written, captures, edge, interruptLine, line, lineRefusal}
+use Rattle.card.specs.Packets.{ackRefusal}
 use Rattle.wire.specs.Digits.{below}
 use Rattle.wire.proofs.digits.Laws.{and-left}
 use Rattle.wire.proofs.packets.Laws.{and-false}
 use Rattle.card.proofs.lawful.Laws.{parts}
-use Rattle.card.proofs.time.Laws.{in-range, days-in-year}
 
 -- words can be written for the time of a lawful card
 pub writable-now : (t : Time) → timeLawful t ≡ true → writable (t .day) (t .tick .ticks) ≡ true
@@ -33,7 +39,11 @@ writable-now t h =
     let d = days-in-year (t .year) in
     simp (le-leb 1 (t .day) (r .proper .day-low), le-leb (t .day) 366 (omega (arith, r .proper .day-high)), lt-ltb _ _ (r .proper .tick))
 
-pub words-now : (t : Time) → timeLawful t ≡ true → wordsOrZero (t .day) (t .tick .ticks) ≡ wordsOf (t .day) (t .tick .ticks)
+-- a lawful card has a lawful time
+pub time-lawful : (c : Card) → lawful c ≡ true → timeLawful (c .clock .time) ≡ true
+time-lawful c h = clock.parts (c .clock) (parts c h .clock) .time
+
+pub words-now : (t : Time) → timeLawful t ≡ true → wordsOrZero (t .day) (t .tick .ticks) ≡ wordsAt t
 unfolding wordsOrZero
 words-now t h = simp (writable-now t h)
 
@@ -74,11 +84,11 @@ module _ (c : Card) (reg : ℕ) where
   unfolding shown
   shows-time a b = simp (ne-eqb reg 0 a, le-leb reg 5 b)
 
-  pub shows-event : (reg ≡ 0 → ⊥) → 5 < reg → reg ≤ 10 → getD (c .«event_latch») (reg - 6) 0 ≡ shown c reg
+  pub shows-event : (reg ≡ 0 → ⊥) → 5 < reg → reg ≤ 10 → getD (c .event .latch) (reg - 6) 0 ≡ shown c reg
   unfolding shown
   shows-event a b d = simp (ne-eqb reg 0 a, lt-leb reg 5 b, le-leb reg 10 d)
 
-  pub shows-vector : 10 < reg → (reg ≡ 11 → ⊥) → (reg ≡ 12 → ⊥) → (reg ≡ 14 → ⊥) → (reg ≡ 15 → ⊥) → (reg ≡ 16 → ⊥) → c .vector ≡ shown c reg
+  pub shows-vector : 10 < reg → (reg ≡ 11 → ⊥) → (reg ≡ 12 → ⊥) → (reg ≡ 14 → ⊥) → (reg ≡ 15 → ⊥) → (reg ≡ 16 → ⊥) → c .interrupts .vector ≡ shown c reg
   unfolding shown
   shows-vector l p q r s t =
       simp (ne-eqb reg 0 (λ z. omega arith), lt-leb reg 5 (omega arith), lt-leb reg 10 l, ne-eqb reg 11 p, ne-eqb reg 12 q, ne-eqb reg 14 r, ne-eqb reg 15 s, ne-eqb reg 16 t)
@@ -98,6 +108,10 @@ module _ (c : Card) (reg v n : ℕ) (k : Bool) (ek : k ≡ lawful c) (en : n ≡
   pub write-done : n ≡ 0 → written c reg v ≡ writeRegister c reg v
   unfolding writeRegister
   write-done h = rw (← f) (simp h)
+
+  -- with the number that was asked for, which is 0
+  pub write-gives : n ≡ 0 → (d : Card) → answer d 0 ≡ written c reg v → answer d n ≡ writeRegister c reg v
+  write-gives h d e = ap (answer d) h ∙ e ∙ write-done h
 
 -- the lines behind 2: a register in reach of writing
 module _ (k : Bool) (reg fill : ℕ) (l : k ≡ true) (m : reg ≤ 17) (g : 10 < reg) where
@@ -124,6 +138,11 @@ queue-within c h = leb-true (c .queue .fill) 64 (and-left (leb (c .queue .fill) 
 pub queue-room : (c : Card) → lawful c ≡ true → (c .queue .fill ≡ 64 → ⊥) → c .queue .fill < 64
 queue-room c h e = lt-of-le-ne (queue-within c h) e
 
+-- the table of ACK is that of the packet in the queue
+pub ack-packet : (q : Queue) → ackRefusal q ≡ packetRefusal (queued q)
+unfolding ackRefusal packetRefusal
+ack-packet q = refl
+
 -- writing FIFO: 18, 3, or the byte joins the queue
 module _ (c : Card) (v : ℕ) (k : Bool) (ek : k ≡ lawful c) where
   pub fifo-18 : k ≡ false → answer c 18 ≡ writeRegister c 13 v
@@ -138,44 +157,39 @@ module _ (c : Card) (v : ℕ) (k : Bool) (ek : k ≡ lawful c) where
   unfolding writeRegister writeRefusal given written
   fifo-joins h e bs eb = ap (λ (l : List ℕ). answer (withQueue c (record { bytes = l; fill = c .queue .fill + 1 })) 0) eb ∙ simp (sym ek ∙ h, ne-eqb (c .queue .fill) 64 e)
 
-pub writes-vector : (c : Card) (reg v : ℕ) → (reg ≡ 0 → ⊥) → (reg ≡ 11 → ⊥) → (reg ≡ 12 → ⊥) → (reg ≡ 13 → ⊥) → (reg ≡ 14 → ⊥) → (reg ≡ 15 → ⊥) → (reg ≡ 16 → ⊥) →
-    answer (withVector c (v % 256)) 0 ≡ written c reg v
+-- the interrupt registers
+pub writes-interrupts : (c : Card) (reg v : ℕ) → (reg ≡ 0 → ⊥) → (reg ≡ 11 → ⊥) → (reg ≡ 12 → ⊥) → (reg ≡ 13 → ⊥)
+    → answer (withInterrupts c (interruptsWritten (c .interrupts) reg v)) 0 ≡ written c reg v
 unfolding written
-writes-vector c reg v a b d e f g h =
-    simp (ne-eqb reg 0 a, ne-eqb reg 11 b, ne-eqb reg 12 d, ne-eqb reg 13 e, ne-eqb reg 14 f, ne-eqb reg 15 g, ne-eqb reg 16 h)
+writes-interrupts c reg v a b d e = simp (ne-eqb reg 0 a, ne-eqb reg 11 b, ne-eqb reg 12 d, ne-eqb reg 13 e)
 
 -- what an edge answers
-module _ (c : Card) (falling : Bool) (k t : Bool) (ek : k ≡ lawful c) (et : t ≡ captures (c .control) falling) where
+module _ (c : Card) (falling : Bool) (k t : Bool) (ek : k ≡ lawful c) (et : t ≡ captures (c .event .control) falling) where
   pub edge-18 : k ≡ false → answer c 18 ≡ edge c falling
-  unfolding edge
+  unfolding edge granted given
   edge-18 h = simp (sym ek ∙ h)
 
-  pub edge-captured : k ≡ true → t ≡ true → (ws : List ℕ) → ws ≡ wordsNow c → (p : ℕ) → p ≡ raised 1 true (c .pending) → answer (withPending (withEventLatch c ws) p) 0 ≡ edge c falling
-  unfolding edge
-  edge-captured h u ws ew p ep =
-      ap₂ (λ (l : List ℕ) (n : ℕ). answer (withPending (withEventLatch c l) n) 0) ew ep ∙ simp (sym ek ∙ h, sym et ∙ u)
+  pub edge-captured : k ≡ true → t ≡ true → (ws : List ℕ) → ws ≡ wordsNow c → (i : Interrupts) → i ≡ eventRaised (c .interrupts)
+      → answer (withInterrupts (withEvent c (withLatch (c .event) ws)) i) 0 ≡ edge c falling
+  unfolding edge granted given
+  edge-captured h u ws ew i ei =
+      ap₂ (λ (l : List ℕ) (j : Interrupts). answer (withInterrupts (withEvent c (withLatch (c .event) l)) j) 0) ew ei
+      ∙ simp (sym ek ∙ h, sym et ∙ u)
 
   pub edge-other : k ≡ true → t ≡ false → answer c 0 ≡ edge c falling
-  unfolding edge
+  unfolding edge granted given
   edge-other h u = simp (sym ek ∙ h, sym et ∙ u)
 
 -- what the line answers
-abbrev interrupt : ℕ → Bool → ℕ → ℕ → Interrupt
-interrupt n up level vector = record { number = n; up = up; level = level; vector = vector }
-
 module _ (c : Card) (k : Bool) (ek : k ≡ lawful c) where
-  pub line-18 : k ≡ false → interrupt 18 false 0 0 ≡ line c
-  unfolding line
+  pub line-18 : k ≡ false → interruptLine 18 false 0 0 ≡ line c
+  unfolding line lineRefusal given
   line-18 h = simp (sym ek ∙ h)
 
-  pub line-up : k ≡ true → (c .level ≡ 0 → ⊥) → meet (c .pending) (c .mask) ≡ true → interrupt 0 true (c .level) (c .vector) ≡ line c
-  unfolding line lineUp
-  line-up h l m = simp (sym ek ∙ h, ne-eqb (c .level) 0 l, m)
+  pub line-up : k ≡ true → lineUp (c .interrupts) ≡ true → interruptLine 0 true (c .interrupts .level) (c .interrupts .vector) ≡ line c
+  unfolding line
+  line-up h u = simp (sym ek ∙ h, u)
 
-  pub line-quiet : k ≡ true → meet (c .pending) (c .mask) ≡ false → interrupt 0 false 0 0 ≡ line c
-  unfolding line lineUp
-  line-quiet h m = simp (sym ek ∙ h, m, and-false)
-
-  pub line-off : k ≡ true → c .level ≡ 0 → interrupt 0 false 0 0 ≡ line c
-  unfolding line lineUp
-  line-off h l = simp (sym ek ∙ h, eq-eqb (c .level) 0 l)
+  pub line-down : k ≡ true → lineUp (c .interrupts) ≡ false → interruptLine 0 false 0 0 ≡ line c
+  unfolding line lineRefusal given
+  line-down h u = simp (sym ek ∙ h, u)

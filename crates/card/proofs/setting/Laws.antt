@@ -1,45 +1,33 @@
--- Setting: the three ways that a call which sets one thing can go, and the ranges of what is kept. Assumes nothing.
-use Prim.Native.Nat.{ℕ, _≤_}
-use mathlib.Core.Path.{_≡_, sym, ap, _∙_}
-use mathlib.Core.Bool.{Bool, true, false, _&&_}
-use lib.Dec.{leb}
-use borrow.Author.Tests.{leb-true}
-use Rattle.wire.proofs.digits.Laws.{and-left, and-right}
+-- Setting: of a card that is lawful elsewhere, its clock's answer is its own. Assumes nothing.
+use Prim.Native.Nat.{ℕ}
+use mathlib.Core.Path.{_≡_, refl, sym, ap, _∙_}
+use mathlib.Core.Bool.{Bool, true, false, not}
+use mathlib.Core.List.{List, _∷_}
+use lib.Dec.{eqb}
+use Rattle.wire.specs.Digits.{pick}
+use Rattle.wire.specs.Numbers.{Line, _if_, given}
+use Rattle.clock.specs.declared.clock.Clock.{Clock}
+use Rattle.clock.specs.Clocks.{clockLawful}
+use Rattle.clock.specs.Setting as clock
 use Rattle.card.specs.declared.card.Card.{Card}
-use Rattle.card.specs.declared.setting.StrobeAt.{StrobeAt}
-use Rattle.card.specs.declared.setting.StrobeAt.the-variants as StrobeAt
-use Rattle.card.specs.declared.setting.Dividers.{Dividers}
-use Rattle.card.specs.declared.setting.Dividers.the-variants as Dividers
-use Rattle.card.specs.Registers.{answer}
-use Rattle.card.specs.Setting.{granted, timeOfDay, strobeFits, dividersFit}
+use Rattle.card.specs.Cards.{answer, granted, withClock}
+use Rattle.card.specs.Lawful.{restLawful, lawful}
+use Rattle.card.specs.Setting.{onClock}
+use Rattle.card.proofs.lawful.Laws.{rest-lawful, rest-unlawful}
 
-module _ (k f : Bool) (n : ℕ) (c d : Card) where
-  pub granted-18 : k ≡ false → answer c 18 ≡ granted k f n c d
-  unfolding granted
-  granted-18 h = sym (ap (λ (t : Bool). granted t f n c d) h)
+-- a clock that stays leaves the card as it is
+stays : (c : Card) (d : Clock) (n : ℕ) (t : Bool) → answer (withClock c (pick t d (c .clock))) n ≡ answer (pick t (withClock c d) c) n
+stays c d n true = refl
+stays c d n false = refl
 
-  pub granted-not : k ≡ true → f ≡ false → answer c n ≡ granted k f n c d
-  unfolding granted
-  granted-not h g = sym (ap (λ (t : Bool). granted t f n c d) h ∙ ap (λ (t : Bool). granted true t n c d) g)
+module _ (c : Card) (ls : List Line) (d : Clock) where
+  by-rest : (t : Bool) → restLawful c ≡ t → onClock c (clock.granted (18 if not (clockLawful (c .clock)) ∷ ls) (c .clock) d) ≡ granted (18 if not (lawful c) ∷ ls) c (withClock c d)
+  unfolding onClock granted given
+  by-rest true e =
+      let n : ℕ = given (18 if not (clockLawful (c .clock)) ∷ ls) in
+      simp (e, rest-lawful c e) (stays c d n (eqb n 0))
+  by-rest false e = simp (e, rest-unlawful c e)
 
-  pub granted-0 : k ≡ true → f ≡ true → (after : Card) → after ≡ d → answer after 0 ≡ granted k f n c d
-  unfolding granted
-  granted-0 h g after e = ap (λ (a : Card). answer a 0) e ∙ sym (ap (λ (t : Bool). granted t f n c d) h ∙ ap (λ (t : Bool). granted true t n c d) g)
-
--- what a strobe that fits is within
-pub daily-within : (at : StrobeAt) (hour minute second ms : ℕ) → strobeFits at ≡ true → at ≡ StrobeAt.Daily hour minute second ms → (hour ≤ 23) × ((minute ≤ 59) × ((second ≤ 59) × (ms ≤ 999)))
-unfolding strobeFits
-daily-within at hour minute second ms h e =
-    let g : (timeOfDay hour minute second && leb ms 999) ≡ true = ap strobeFits (sym e) ∙ h in
-    let t = and-left (timeOfDay hour minute second) (leb ms 999) g in
-    let u = and-right (leb hour 23) (leb minute 59 && leb second 59) t in
-    (leb-true hour 23 (and-left (leb hour 23) (leb minute 59 && leb second 59) t), (leb-true minute 59 (and-left (leb minute 59) (leb second 59) u), (leb-true second 59 (and-right (leb minute 59) (leb second 59) u), leb-true ms 999 (and-right (timeOfDay hour minute second) (leb ms 999) g))))
-
--- and dividers that fit
-pub dividers-within : (d : Dividers) (n1 n2 : ℕ) → dividersFit d ≡ true → d ≡ Dividers.By n1 n2 → (n1 ≤ 65535) × (n2 ≤ 65535)
-unfolding dividersFit
-dividers-within d n1 n2 h e =
-    let g : (leb 2 n1 && (leb n1 65535 && (leb 2 n2 && leb n2 65535))) ≡ true = ap dividersFit (sym e) ∙ h in
-    let u = and-right (leb 2 n1) (leb n1 65535 && (leb 2 n2 && leb n2 65535)) g in
-    let v = and-right (leb n1 65535) (leb 2 n2 && leb n2 65535) u in
-    (leb-true n1 65535 (and-left (leb n1 65535) (leb 2 n2 && leb n2 65535) u), leb-true n2 65535 (and-right (leb 2 n2) (leb n2 65535) v))
+  -- refused by 18 or by a line, or the card with the clock set
+  pub on-clock : onClock c (clock.granted (18 if not (clockLawful (c .clock)) ∷ ls) (c .clock) d) ≡ granted (18 if not (lawful c) ∷ ls) c (withClock c d)
+  on-clock = by-rest (restLawful c) refl

@@ -10,8 +10,8 @@ use Rattle.wire.specs.Packets.{readPacket, numberRead}
 use Rattle.card.specs.declared.card.Card.{Card}
 use Rattle.card.specs.Registers.{writeRegister}
 use Rattle.card.specs.Reset.{freshCard}
-use Rattle.card.proofs.Fed
-use Rattle.card.proofs.Keeps.{fresh-lawful}
+use Rattle.laws.proofs.Fed
+use Rattle.laws.proofs.Keeps.{fresh-lawful}
 use Rattle.listing.specs.Listing.{fed, answerOf}
 
 fed-same : (bs : List ℕ) (c : Card) → fed c bs ≡ Fed.fed bs c

@@ -12,19 +12,16 @@ use lib.ListN.{length, take, getD, set, replicate, length-append}
 use lib.Seq.{take-suc, drop-at, set-at, length-take-le}
 use borrow.Author.Tests.{lt-ltb, ltb-true, le-leb, ne-eqb}
 use Rattle.wire.specs.Digits.{below}
-use Rattle.wire.specs.Words.{zeroWords}
-use Rattle.wire.specs.Packets.{modeMeans}
 use Rattle.wire.proofs.digits.Laws.{and-left, and-right, below-append}
-use Rattle.card.specs.declared.card.Queue.{Queue}
+use Rattle.parts.specs.declared.queue.Queue.{Queue}
 use Rattle.card.specs.declared.card.Card.{Card}
 use Rattle.card.specs.Cards.{withQueue}
-use Rattle.card.specs.Time.{timeLawful, daysIn}
-use Rattle.card.specs.Falling.{strobeLawful, periodicLawful}
-use Rattle.card.specs.Lawful.{lawful, registersLawful, settingsLawful, latchLawful, queueLawful}
+use Rattle.parts.specs.Queues.{queueLawful}
+use Rattle.card.specs.Lawful.{lawful}
 use Rattle.card.specs.Registers.{written, writeRegister}
 use Rattle.card.specs.Reset.{freshCard}
-use Rattle.card.proofs.lawful.Laws.{whole}
 use Rattle.card.proofs.registers.Laws.{write-0}
+use Rattle.laws.proofs.Keeps.{keeps-queue, fresh-lawful}
 use Rattle.listing.specs.Listing.{fed, queueOf, Refilled}
 
 -- a fresh card with bytes in its queue
@@ -41,10 +38,7 @@ unfolding queueLawful
 queue-lawful held h = simp (le-leb (length held) 64 h, drop-at held (replicate (64 - length held) 0) (length held) refl, zeros-below (64 - length held))
 
 holding-lawful : (held : List ℕ) → length held ≤ 64 → lawful (holding held) ≡ true
-unfolding freshCard registersLawful timeLawful daysIn settingsLawful modeMeans strobeLawful periodicLawful latchLawful zeroWords below
-holding-lawful held h =
-    whole (holding held)
-    (record { registers = refl; time = refl; settings = refl; strobe = refl; periodic = refl; timeLatch = refl; eventLatch = refl; queue = queue-lawful held h })
+holding-lawful held h = keeps-queue freshCard fresh-lawful (queueOf held) (queue-lawful held h)
 
 joined-queue : (held : List ℕ) (b k : ℕ) → 64 - length held ≡ suc k → b < 256 →
     set (held ++ replicate (64 - length held) 0) (length held) (b % 256) ≡ (held ++ (b ∷ [])) ++ replicate (64 - length (held ++ (b ∷ []))) 0

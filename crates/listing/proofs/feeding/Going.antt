@@ -13,7 +13,7 @@ use borrow.Author.Tests.{ltb-true, leb-true, le-leb, lt-leb}
 use Rattle.wire.specs.Digits.{pick, below}
 use Rattle.wire.proofs.digits.Laws.{and-left, and-right}
 use Rattle.wire.proofs.packets.Laws.{and-false}
-use Rattle.card.specs.declared.card.Queue.{Queue}
+use Rattle.parts.specs.declared.queue.Queue.{Queue}
 use Rattle.card.specs.declared.card.Card.{Card}
 use Rattle.card.specs.Registers.{writeRegister}
 use Rattle.card.specs.Reset.{freshCard}

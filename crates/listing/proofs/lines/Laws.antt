@@ -14,8 +14,7 @@ use lib.Seq.{take-suc, set-at, take-at, drop-at, drop-drop, length-take-le, set-
 use borrow.Author.Tests.{ne-eqb}
 use Rattle.wire.specs.Digits.{pick, digits}
 use Rattle.wire.specs.Packets.{ascii}
-use Rattle.wire.proofs.digits.Laws.{digits-length}
-use Rattle.wire.proofs.digits.Laws.{lt-or-le}
+use Rattle.wire.proofs.digits.Laws.{digits-length, lt-or-le}
 use Rattle.listing.specs.Listing.{trimmed, decimal, line, placed, Places, Put, PutLine}
 
 pos : (k : ℕ) → 0 < 10 ^ k

@@ -1,18 +1,16 @@
--- `fed` is safe and ends: it goes through the bytes once.
+-- `fed` is safe and ends: it counts the bytes up once.
 -- Assumes nothing.
 use Prim.Native.Nat.{_≤_, _-_}
-use mathlib.Core.Path.{_≡_}
 use native.Mathlib.Omega.{arith}
-use lib.ListN.{length}
 use borrow.Author.Needs.{needs}
 use Rattle.refusals.proofs.fed.Statement.{statement}
 use Rattle.refusals.proofs.fed.Tie as tie
 
 abbrev Inv-loop : tie.InvT-loop
-Inv-loop bytes c₀ i₀ i-end c i = (i ≤ i-end) × (i-end ≡ length bytes)
+Inv-loop text count c₀ i₀ c i = i ≤ count
 
 abbrev μ-loop : tie.MeasureT-loop
-μ-loop bytes c₀ i₀ i-end c i = i-end - i
+μ-loop text count c₀ i₀ c i = count - i
 
 fresh-card-requires : tie.Need-fresh-card-requires Inv-loop μ-loop
 fresh-card-requires c κs = search needs
@@ -20,11 +18,14 @@ fresh-card-requires c κs = search needs
 loop-holds : tie.Need-loop-holds Inv-loop μ-loop
 loop-holds c = omega arith
 
-shared-slice-read-write-register : tie.Need-shared-slice-read-write-register Inv-loop μ-loop
-shared-slice-read-write-register c = omega arith
+mul-byte-at : tie.Need-mul-byte-at Inv-loop μ-loop
+mul-byte-at c = omega arith
+
+byte-at-requires : tie.Need-byte-at-requires Inv-loop μ-loop
+byte-at-requires c κs = search needs
 
 cast-write-register : tie.Need-cast-write-register Inv-loop μ-loop
-cast-write-register c = omega (arith, c .shared-slice-known2 .given (c .before .before .loop .i))
+cast-write-register c = search needs
 
 write-register-requires : tie.Need-write-register-requires Inv-loop μ-loop
 write-register-requires c κs = search needs
@@ -49,7 +50,8 @@ fed-spec =
     μ-loop
     fresh-card-requires
     loop-holds
-    shared-slice-read-write-register
+    mul-byte-at
+    byte-at-requires
     cast-write-register
     write-register-requires
     add-i

@@ -21,8 +21,8 @@ use Rattle.wire.specs.declared.packets.Format.{Format}
 use Rattle.wire.specs.declared.packets.Format.the-variants as Format
 use Rattle.wire.specs.declared.packets.Modulation.{Modulation}
 use Rattle.wire.specs.declared.packets.Modulation.the-variants as Modulation
-use Rattle.wire.specs.declared.packets.Clock.{Clock}
-use Rattle.wire.specs.declared.packets.Clock.the-variants as Clock
+use Rattle.wire.specs.declared.packets.ClockSource.{ClockSource}
+use Rattle.wire.specs.declared.packets.ClockSource.the-variants as ClockSource
 use Rattle.wire.specs.declared.packets.Generator.{Generator}
 use Rattle.wire.specs.declared.packets.Generator.the-variants as Generator
 use Rattle.wire.specs.declared.packets.Packet.{Packet}
@@ -97,10 +97,10 @@ unfolding modulationOf
 modulation-letter Modulation.M = (refl, refl, refl)
 modulation-letter Modulation.D = (refl, refl, refl)
 
-clock-letter : (c : Clock) → (isClock (letterOfClock c) ≡ true) × (clockOf (letterOfClock c) ≡ c) × (eqb (letterOfClock c) 0x17 ≡ false)
+clock-letter : (c : ClockSource) → (isClock (letterOfClock c) ≡ true) × (clockOf (letterOfClock c) ≡ c) × (eqb (letterOfClock c) 0x17 ≡ false)
 unfolding clockOf
-clock-letter Clock.External = (refl, refl, refl)
-clock-letter Clock.Internal = (refl, refl, refl)
+clock-letter ClockSource.External = (refl, refl, refl)
+clock-letter ClockSource.Internal = (refl, refl, refl)
 
 generator-letter : (g : Generator) → (isGenerator (letterOfGenerator g) ≡ true) × (generatorOf (letterOfGenerator g) ≡ g) × (eqb (letterOfGenerator g) 0x17 ≡ false)
 unfolding generatorOf
@@ -346,7 +346,7 @@ modulation-back b h = letter-step letterOfModulation Modulation.M _ b _ h (lette
 
 clock-back : (b : ℕ) → isClock b ≡ true → letterOfClock (clockOf b) ≡ b
 unfolding clockOf
-clock-back b h = letter-step letterOfClock Clock.External _ b _ h (letter-last letterOfClock Clock.Internal b)
+clock-back b h = letter-step letterOfClock ClockSource.External _ b _ h (letter-last letterOfClock ClockSource.Internal b)
 
 generator-back : (b : ℕ) → isGenerator b ≡ true → letterOfGenerator (generatorOf b) ≡ b
 unfolding generatorOf

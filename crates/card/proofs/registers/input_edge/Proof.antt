@@ -2,7 +2,7 @@
 -- Assumes nothing.
 use mathlib.Core.Path.{refl, sym, _∙_}
 use borrow.Author.Tests.{not-true, not-false}
-use Rattle.card.proofs.registers.Laws.{edge-18, edge-captured, edge-other}
+use Rattle.card.proofs.registers.Laws.{time-lawful, edge-18, edge-captured, edge-other}
 use borrow.Author.Needs.{needs}
 use Rattle.card.proofs.registers.input_edge.Statement.{statement}
 use Rattle.card.proofs.registers.input_edge.Tie as tie
@@ -16,16 +16,17 @@ returns c = edge-18 _ _ _ _ (c .before .is-lawful .ensures) refl (not-true _ (c 
 is-captured-requires : tie.Need-is-captured-requires
 is-captured-requires c κs = search needs
 
-words-now-requires : tie.Need-words-now-requires
-words-now-requires c κs = sym (c .before .before .before .is-lawful .ensures) ∙ not-false _ (c .before .before .if1 .left)
+words-at-requires : tie.Need-words-at-requires
+words-at-requires c κs = let p = c .before .before .before in time-lawful _ (sym (p .before .is-lawful .ensures) ∙ not-false _ (p .if1 .left))
 
-raise-requires : tie.Need-raise-requires
-raise-requires c κs = search needs
+raise-event-requires : tie.Need-raise-event-requires
+raise-event-requires c κs = search needs
 
 returns-2 : tie.Need-returns-2
 returns-2 c =
-    let p = c .before .before .before .before in
-    edge-captured _ _ _ _ (p .before .is-lawful .ensures) (c .before .before .before .is-captured .ensures) (not-false _ (p .if1 .left)) (c .before .before .if2 .taken) _ (c .before .words-now .ensures) _ (c .raise .ensures)
+    let q = c .before .before .before .before .before in
+    let p = q .before .before in
+    edge-captured _ _ _ _ (p .before .is-lawful .ensures) (q .before .is-captured .ensures) (not-false _ (p .if1 .left)) (q .if2 .taken) _ (c .before .before .before .words-at .ensures) _ (c .before .raise-event .ensures)
 
 returns-3 : tie.Need-returns-3
 returns-3 c =
@@ -39,7 +40,7 @@ input-edge-spec =
     is-lawful-requires
     returns
     is-captured-requires
-    words-now-requires
-    raise-requires
+    words-at-requires
+    raise-event-requires
     returns-2
     returns-3)

@@ -1,6 +1,6 @@
 -- `registers::read_register` meets its contract: refused, latched or shown.
 -- Assumes nothing.
-use Rattle.card.proofs.registers.Laws.{read-lawful, read-refused, read-latches, read-shows}
+use Rattle.card.proofs.registers.Laws.{time-lawful, read-lawful, read-refused, read-latches, read-shows}
 use borrow.Author.Needs.{needs}
 use Rattle.card.proofs.registers.read_register.Statement.{statement}
 use Rattle.card.proofs.registers.read_register.Tie as tie
@@ -17,15 +17,15 @@ returns c = read-refused _ _ _ _ (c .before .before .is-lawful .ensures) (c .bef
 show-requires : tie.Need-show-requires
 show-requires c κs = search needs
 
-words-now-requires : tie.Need-words-now-requires
-words-now-requires c κs =
-    let p = c .before .before in
-    read-lawful _ _ _ _ (p .before .before .is-lawful .ensures) (p .before .read-refusal .ensures) (p .if1 .left)
+words-at-requires : tie.Need-words-at-requires
+words-at-requires c κs =
+    let p = c .before .before .before in
+    time-lawful _ (read-lawful _ _ _ _ (p .before .before .is-lawful .ensures) (p .before .read-refusal .ensures) (p .if1 .left))
 
 returns-2 : tie.Need-returns-2
 returns-2 c =
-    let p = c .before .before .before in
-    read-latches _ _ _ _ (p .before .before .is-lawful .ensures) (p .before .read-refusal .ensures) (p .if1 .left) (c .before .if2 .taken) _ (c .before .before .show .ensures) _ (c .words-now .ensures)
+    let p = c .before .before .before .before in
+    read-latches _ _ _ _ (p .before .before .is-lawful .ensures) (p .before .read-refusal .ensures) (p .if1 .left) (c .before .before .if2 .taken) _ (c .before .before .before .show .ensures) _ (c .words-at .ensures)
 
 returns-3 : tie.Need-returns-3
 returns-3 c =
@@ -40,6 +40,6 @@ read-register-spec =
     read-refusal-requires
     returns
     show-requires
-    words-now-requires
+    words-at-requires
     returns-2
     returns-3)

@@ -3,7 +3,7 @@
 use mathlib.Core.Path.{sym, _∙_, ap}
 use borrow.Author.Tests.{not-true, not-false}
 use Rattle.card.specs.declared.card.Card.{Card}
-use Rattle.card.specs.declared.saved.SettingsRead.the-variants as SettingsRead
+use Rattle.parts.specs.declared.saved.SettingsRead.the-variants as SettingsRead
 use Rattle.card.proofs.saved.Calls.{load-18, load-read}
 use borrow.Author.Needs.{needs}
 use Rattle.card.proofs.saved.load.Statement.{statement}
@@ -28,12 +28,13 @@ with-settings-requires : tie.Need-with-settings-requires
 with-settings-requires c κs = search needs
 
 returns-2 : tie.Need-returns-2
-returns-2 c = load-read _ _ (sym (c .before .before .before .before .is-lawful .ensures) ∙ not-false _ (c .before .before .before .if1 .left)) SettingsRead.Refused (sym (c .enum-told .given .1) ∙ c .before .before .load-settings .ensures)
+returns-2 c = let p = c .before .before .before in load-read _ _ (sym (p .before .is-lawful .ensures) ∙ not-false _ (p .if1 .left)) SettingsRead.Refused (sym (c .enum-told .given .1) ∙ c .before .before .load-settings .ensures)
 
 returns-3 : tie.Need-returns-3
 returns-3 c =
+    let p = c .before .before .before .before .before in
     ap (λ (k : Card). record { card = k; number = 0 }) (c .with-settings .ensures)
-    ∙ load-read _ _ (sym (c .before .before .before .before .before .before .is-lawful .ensures) ∙ not-false _ (c .before .before .before .before .before .if1 .left)) (SettingsRead.Is _) (sym (c .before .before .read .given .1) ∙ c .before .before .before .before .load-settings .ensures)
+    ∙ load-read _ _ (sym (p .before .is-lawful .ensures) ∙ not-false _ (p .if1 .left)) (SettingsRead.Is _) (sym (c .before .before .read .given .1) ∙ c .before .before .before .before .load-settings .ensures)
 
 pub load-spec : {M : Type 1} → statement M
 load-spec =

@@ -1,33 +1,41 @@
--- `waiting::wait` meets its contract: 18 by the test, all else by `wait_lawful`.
+-- `waiting::wait` meets its contract: 18 where the card is not lawful elsewhere, and else what its clock answers.
 -- Assumes nothing.
-use mathlib.Core.Path.{refl, sym, _∙_}
-use Rattle.card.specs.Waiting.{wait, rowWaited}
-use Rattle.card.proofs.lawful.Laws.{parts}
+use mathlib.Core.Path.{sym, _∙_}
+use borrow.Author.Tests.{not-true, not-false}
+use Rattle.card.proofs.waiting.Laws.{unlawful, passes}
 use borrow.Author.Needs.{needs}
 use Rattle.card.proofs.waiting.wait.Statement.{statement}
 use Rattle.card.proofs.waiting.wait.Tie as tie
 
-is-lawful-requires : tie.Need-is-lawful-requires
-is-lawful-requires c κs = search needs
+rest-fits-requires : tie.Need-rest-fits-requires
+rest-fits-requires c κs = search needs
 
-wait-lawful-requires : tie.Need-wait-lawful-requires
-wait-lawful-requires c κs =
-    let p = parts _ (sym (c .before .before .is-lawful .ensures) ∙ c .before .if1 .taken) in
-    (p .time, p .strobe, p .periodic)
+returns : tie.Need-returns
+returns c = unlawful _ _ _ (sym (c .before .rest-fits .ensures) ∙ not-true _ (c .if1 .taken))
+
+pass-requires : tie.Need-pass-requires
+pass-requires c κs = search needs
+
+raise-sources-requires : tie.Need-raise-sources-requires
+raise-sources-requires c κs = search needs
 
 same-length : tie.Need-same-length
 same-length c = search needs
 
-returns : tie.Need-returns
-unfolding wait rowWaited
-returns c =
-    let l = sym (c .before .before .before .before .before .is-lawful .ensures) ∙ c .before .before .before .before .if1 .taken in
-    simp l (c .before .before .wait-lawful .ensures)
-
 returns-2 : tie.Need-returns-2
-unfolding wait rowWaited
-returns-2 c = simp (sym (c .before .is-lawful .ensures) ∙ c .if1 .left) (refl, refl)
+returns-2 c =
+    let p = c .before .before .before .before .before .before .before in
+    let r = p .before .before .before in
+    rw (c .raise-sources .ensures)
+    (passes _ _ _ (sym (r .before .rest-fits .ensures) ∙ not-false _ (r .if1 .left)) _ _ (p .pass .ensures .0) (p .pass .ensures .1))
 
 pub wait-spec : {M : Type 1} → statement M
 wait-spec =
-    tie.close (tie.spec is-lawful-requires wait-lawful-requires same-length returns returns-2)
+    tie.close
+    (tie.spec
+    rest-fits-requires
+    returns
+    pass-requires
+    raise-sources-requires
+    same-length
+    returns-2)

@@ -83,7 +83,7 @@ module _ {M : Type 1} (𝓤 : URA M) (H : Heap 𝓤) (A : Atoms 𝓤) (at-mem : 
   abbrev WaitedOf : Contract 𝓤
   WaitedOf = tripleOf 𝓤 H A waited-of.signature (waited-of.spec 𝓤 H A at-mem run)
 
--- the machine values of a card and of ticks
+-- a card and ticks as they are stored
 abbrev mach : Card → Val
 mach h = LL.tuple-val T.the-type T′.the-laws (T.the-type .to h)
 

@@ -1,4 +1,4 @@
--- `feeding::refill` meets its contract. The invariant: the card is filled with the first bytes of the queue. The measure is what is left of them.
+-- `feeding::refill` meets its contract. The invariant: the card is filled with the first bytes of the queue's 64. The measure is what is left of them.
 -- Assumes nothing.
 use Prim.Native.Nat.{_-_, _≤_}
 use mathlib.Core.Path.{_≡_}
@@ -10,7 +10,7 @@ use Rattle.listing.proofs.feeding.refill.Statement.{statement}
 use Rattle.listing.proofs.feeding.refill.Tie as tie
 
 abbrev Inv-loop : tie.InvT-loop
-Inv-loop bytes fill card₀ i₀ card i = (i ≤ fill) × Filled bytes card i
+Inv-loop bytes fill card₀ i₀ card i = (i ≤ fill) × (length bytes ≡ 64) × Filled bytes card i
 
 abbrev μ-loop : tie.MeasureT-loop
 μ-loop bytes fill card₀ i₀ card i = fill - i
@@ -19,7 +19,7 @@ fresh-card-requires : tie.Need-fresh-card-requires Inv-loop μ-loop
 fresh-card-requires c κs = tt
 
 loop-holds : tie.Need-loop-holds Inv-loop μ-loop
-loop-holds c = (omega arith, filled-none _ _ (c .fresh-card .ensures))
+loop-holds c = (omega arith, search needs, filled-none _ _ (c .fresh-card .ensures))
 
 byte-of-requires : tie.Need-byte-of-requires Inv-loop μ-loop
 byte-of-requires c κs = omega arith
@@ -35,13 +35,13 @@ loop-less c = omega arith
 
 loop-again : tie.Need-loop-again Inv-loop μ-loop
 loop-again c =
-    let l : length (c .before .before .before .before .before .before .args .queue .bytes) ≡ 64 = search needs in
-    (omega arith, filled-more _ _ _ _ _ (c .before .before .before .loop .inv .1) (omega arith) (omega (arith, c .before .byte-of .ok)) (c .before .byte-of .ensures) (c .write-byte .ensures))
+    let v = c .before .before .before .loop .inv in
+    (omega arith, v .1, filled-more _ _ _ _ _ (v .2) (omega (arith, v .1)) (omega (arith, c .before .byte-of .ok)) (c .before .byte-of .ensures) (c .write-byte .ensures))
 
 returns : tie.Need-returns Inv-loop μ-loop
 returns c =
-    let l : length (c .before .before .before .before .args .queue .bytes) ≡ 64 = search needs in
-    filled-all _ _ _ (c .before .loop .inv .1) (c .before .loop .inv .0) (c .loop-test .left) (omega (arith, c .before .before .before .before .pre))
+    let v = c .before .loop .inv in
+    filled-all _ _ _ (v .2) (v .0) (c .loop-test .left) (omega (arith, v .1, c .before .before .before .before .pre))
 
 pub refill-spec : {M : Type 1} → statement M
 refill-spec =

@@ -1,0 +1,30 @@
+-- Setting: the ranges of what is kept. Assumes nothing.
+use Prim.Native.Nat.{ℕ, _≤_}
+use mathlib.Core.Path.{_≡_, sym, ap, _∙_}
+use mathlib.Core.Bool.{true, _&&_}
+use lib.Dec.{leb}
+use borrow.Author.Tests.{leb-true}
+use Rattle.wire.proofs.digits.Laws.{and-left, and-right}
+use Rattle.clock.specs.declared.setting.StrobeAt.{StrobeAt}
+use Rattle.clock.specs.declared.setting.StrobeAt.the-variants as StrobeAt
+use Rattle.clock.specs.declared.setting.Dividers.{Dividers}
+use Rattle.clock.specs.declared.setting.Dividers.the-variants as Dividers
+use Rattle.clock.specs.Setting.{timeOfDay, strobeFits, dividersFit}
+
+-- what a strobe that fits is within
+pub daily-within : (at : StrobeAt) (hour minute second ms : ℕ) → strobeFits at ≡ true → at ≡ StrobeAt.Daily hour minute second ms → (hour ≤ 23) × ((minute ≤ 59) × ((second ≤ 59) × (ms ≤ 999)))
+unfolding strobeFits
+daily-within at hour minute second ms h e =
+    let g : (timeOfDay hour minute second && leb ms 999) ≡ true = ap strobeFits (sym e) ∙ h in
+    let t = and-left (timeOfDay hour minute second) (leb ms 999) g in
+    let u = and-right (leb hour 23) (leb minute 59 && leb second 59) t in
+    (leb-true hour 23 (and-left (leb hour 23) (leb minute 59 && leb second 59) t), (leb-true minute 59 (and-left (leb minute 59) (leb second 59) u), (leb-true second 59 (and-right (leb minute 59) (leb second 59) u), leb-true ms 999 (and-right (timeOfDay hour minute second) (leb ms 999) g))))
+
+-- and dividers that fit
+pub dividers-within : (d : Dividers) (n1 n2 : ℕ) → dividersFit d ≡ true → d ≡ Dividers.By n1 n2 → (n1 ≤ 65535) × (n2 ≤ 65535)
+unfolding dividersFit
+dividers-within d n1 n2 h e =
+    let g : (leb 2 n1 && (leb n1 65535 && (leb 2 n2 && leb n2 65535))) ≡ true = ap dividersFit (sym e) ∙ h in
+    let u = and-right (leb 2 n1) (leb n1 65535 && (leb 2 n2 && leb n2 65535)) g in
+    let v = and-right (leb n1 65535) (leb 2 n2 && leb n2 65535) u in
+    (leb-true n1 65535 (and-left (leb n1 65535) (leb 2 n2 && leb n2 65535) u), leb-true n2 65535 (and-right (leb 2 n2) (leb n2 65535) v))

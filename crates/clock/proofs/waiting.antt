@@ -1,0 +1,5 @@
+pub mod Window
+pub mod Heard
+pub mod Laws
+pub mod Answer
+pub mod Examples

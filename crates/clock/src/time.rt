@@ -1,0 +1,52 @@
+// The card's time.
+use wire::time::TICKS_OF_DAY;
+use wire::time::Ticks;
+ghost use mathlib.Core.Path.{_≡_};
+ghost use mathlib.Core.Bool.{true};
+ghost use Prim.Native.Nat.{_≤_};
+ghost use Rattle.clock.specs.Time.{daysIn, later, timeLawful};
+
+// An instant: a year 1 to 9999, a day within it from 1 on, a tick of day.
+pub struct Time {
+    pub year: u16,
+    pub day: u16,
+    pub tick: Ticks,
+}
+
+// The days of a year: the leap rule.
+pub fn days_in(year: u16) -> u16
+    ensures { λ r. ⌜ r ≡ daysIn year ⌝ }
+{
+    if year % 4 == 0 { 366 } else { 365 }
+}
+
+// The time so many ticks later, at most a day of them: one day or none is carried.
+pub(crate) fn later_time(t: Time, ticks: u64) -> Time
+    requires { ⌜ (timeLawful t ≡ true) × (ticks ≤ 864000000000) ⌝ }
+    ensures { λ r. ⌜ r ≡ later ticks t ⌝ }
+{
+    let tick = t.tick.ticks + ticks;
+    if tick < TICKS_OF_DAY {
+        return Time {
+            year: t.year,
+            day: t.day,
+            tick: Ticks { ticks: tick },
+        };
+    }
+    if t.day < days_in(t.year) {
+        return Time {
+            year: t.year,
+            day: t.day + 1,
+            tick: Ticks {
+                ticks: tick - TICKS_OF_DAY,
+            },
+        };
+    }
+    Time {
+        year: t.year + 1,
+        day: 1,
+        tick: Ticks {
+            ticks: tick - TICKS_OF_DAY,
+        },
+    }
+}

@@ -1,0 +1,163 @@
+-- The two latches. A time request leaves the words of the card's time in the time latch, a captured edge in the event latch, a reset zeros in both;
+-- no other call touches either. By the frame. Assumes nothing.
+use Prim.Native.Nat.{ℕ}
+use mathlib.Core.Path.{_≡_, refl, sym, ap, subst, _∙_}
+use mathlib.Core.Bool.{Bool, true, false}
+use mathlib.Core.List.{List}
+use mathlib.Core.Logic.{_⊎_, inl, inr}
+use lib.Dec.{eqb}
+use borrow.Author.Tests.{eqb-true}
+use Rattle.wire.specs.Digits.{pick}
+use Rattle.wire.specs.Numbers.{given}
+use Rattle.wire.specs.Words.{zeroWords}
+use Rattle.card.specs.declared.card.Card.{Card}
+use Rattle.card.specs.declared.card.Answer.{Answer}
+use Rattle.card.specs.declared.registers.Value.{Value}
+use Rattle.card.specs.Cards.{answer, granted, withTimeLatch}
+use Rattle.card.specs.Lawful.{lawful}
+use Rattle.card.specs.Registers
+use Rattle.card.specs.Registers.{captured, value, wordsNow, readRefusal, readRegister, shown, writeRefusal, writeRegister, written, captures}
+use Rattle.card.specs.Reset
+use Rattle.card.specs.Reset.{resetCard}
+use Rattle.laws.specs.Calls.{Call, after, number, Field, among, Same, readTouches, writeTouches, touches}
+use Rattle.laws.proofs.Outcomes.{by}
+use Rattle.laws.proofs.Refused.{accepted-lawful}
+use Rattle.laws.proofs.Frame.{frame}
+
+-- WHICH CALLS TOUCH THEM
+
+pub data LatchesTime : Call → Type 0 where
+  reads : LatchesTime (Call.read 0)
+  writes : (v : ℕ) → LatchesTime (Call.write 0 v)
+  resets : LatchesTime Call.reset
+
+pub data LatchesEvent : Call → Type 0 where
+  edges : (falling : Bool) → LatchesEvent (Call.edge falling)
+  resets : LatchesEvent Call.reset
+
+-- a call that may not touch a latch leaves it
+module _ (k : Call) (c : Card) where
+  time-same : among (touches k) Field.timeLatch ≡ false → after k c .«time_latch» ≡ c .«time_latch»
+  unfolding Same
+  time-same e = ap (λ (d : Card). d .«time_latch») (frame k c) ∙ simp e
+
+  event-same : among (touches k) Field.eventLatch ≡ false → after k c .event .latch ≡ c .event .latch
+  unfolding Same
+  event-same e = ap (λ (d : Card). d .event .latch) (frame k c) ∙ simp e
+
+read-touches : (reg : ℕ) → eqb reg 0 ≡ false → among (readTouches reg) Field.timeLatch ≡ false
+unfolding readTouches among
+read-touches reg e = simp e
+
+read-no-event : (reg : ℕ) → among (readTouches reg) Field.eventLatch ≡ false
+unfolding readTouches among
+read-no-event reg = by (λ (fs : List Field). among fs Field.eventLatch ≡ false) (eqb reg 0) (λ e. refl) (λ e. refl)
+
+abbrev Without : Field → List Field → Type 0
+Without f fs = among fs f ≡ false
+
+write-touches : (reg : ℕ) → eqb reg 0 ≡ false → Without Field.timeLatch (writeTouches reg)
+unfolding writeTouches among
+write-touches reg z =
+    simp z
+    (by (Without Field.timeLatch) (eqb reg 11) (λ e. refl)
+    (λ e. by (Without Field.timeLatch) (eqb reg 12) (λ e. refl)
+    (λ e. by (Without Field.timeLatch) (eqb reg 13) (λ e. refl)
+    (λ e. by (Without Field.timeLatch) (eqb reg 14) (λ e. refl)
+    (λ e. by (Without Field.timeLatch) (eqb reg 15) (λ e. refl)
+    (λ e. by (Without Field.timeLatch) (eqb reg 16) (λ e. refl)
+    (λ e. by (Without Field.timeLatch) (eqb reg 17) (λ e. refl) (λ e. refl))))))))
+
+write-no-event : (reg : ℕ) → Without Field.eventLatch (writeTouches reg)
+unfolding writeTouches among
+write-no-event reg =
+    by (Without Field.eventLatch) (eqb reg 0) (λ e. refl)
+    (λ e. by (Without Field.eventLatch) (eqb reg 11) (λ e. refl)
+    (λ e. by (Without Field.eventLatch) (eqb reg 12) (λ e. refl)
+    (λ e. by (Without Field.eventLatch) (eqb reg 13) (λ e. refl)
+    (λ e. by (Without Field.eventLatch) (eqb reg 14) (λ e. refl)
+    (λ e. by (Without Field.eventLatch) (eqb reg 15) (λ e. refl)
+    (λ e. by (Without Field.eventLatch) (eqb reg 16) (λ e. refl)
+    (λ e. by (Without Field.eventLatch) (eqb reg 17) (λ e. refl) (λ e. refl))))))))
+
+pub time-latching : (k : Call) (c : Card) → (after k c .«time_latch» ≡ c .«time_latch») ⊎ LatchesTime k
+unfolding touches among
+time-latching (Call.setTime year day hour minute second) c = inl (time-same (Call.setTime year day hour minute second) c refl)
+time-latching (Call.read reg) c = go (eqb reg 0) refl
+  where
+    go : (t : Bool) → eqb reg 0 ≡ t → (after (Call.read reg) c .«time_latch» ≡ c .«time_latch») ⊎ LatchesTime (Call.read reg)
+    go true e = inr (subst (λ (r : ℕ). LatchesTime (Call.read r)) (sym (eqb-true reg 0 e)) LatchesTime.reads)
+    go false e = inl (time-same (Call.read reg) c (read-touches reg e))
+time-latching (Call.write reg v) c = go (eqb reg 0) refl
+  where
+    go : (t : Bool) → eqb reg 0 ≡ t → (after (Call.write reg v) c .«time_latch» ≡ c .«time_latch») ⊎ LatchesTime (Call.write reg v)
+    go true e = inr (subst (λ (r : ℕ). LatchesTime (Call.write r v)) (sym (eqb-true reg 0 e)) (LatchesTime.writes v))
+    go false e = inl (time-same (Call.write reg v) c (write-touches reg e))
+time-latching (Call.edge falling) c = inl (time-same (Call.edge falling) c refl)
+time-latching Call.line c = inl (time-same Call.line c refl)
+time-latching (Call.setStrobe s) c = inl (time-same (Call.setStrobe s) c refl)
+time-latching (Call.setPeriodic d) c = inl (time-same (Call.setPeriodic d) c refl)
+time-latching (Call.wait n row) c = inl (time-same (Call.wait n row) c refl)
+time-latching Call.reset c = inr LatchesTime.resets
+time-latching (Call.save row) c = inl (time-same (Call.save row) c refl)
+time-latching (Call.load bytes) c = inl (time-same (Call.load bytes) c refl)
+
+pub event-latching : (k : Call) (c : Card) → (after k c .event .latch ≡ c .event .latch) ⊎ LatchesEvent k
+unfolding touches among
+event-latching (Call.setTime year day hour minute second) c = inl (event-same (Call.setTime year day hour minute second) c refl)
+event-latching (Call.read reg) c = inl (event-same (Call.read reg) c (read-no-event reg))
+event-latching (Call.write reg v) c = inl (event-same (Call.write reg v) c (write-no-event reg))
+event-latching (Call.edge falling) c = inr (LatchesEvent.edges falling)
+event-latching Call.line c = inl (event-same Call.line c refl)
+event-latching (Call.setStrobe s) c = inl (event-same (Call.setStrobe s) c refl)
+event-latching (Call.setPeriodic d) c = inl (event-same (Call.setPeriodic d) c refl)
+event-latching (Call.wait n row) c = inl (event-same (Call.wait n row) c refl)
+event-latching Call.reset c = inr LatchesEvent.resets
+event-latching (Call.save row) c = inl (event-same (Call.save row) c refl)
+event-latching (Call.load bytes) c = inl (event-same (Call.load bytes) c refl)
+
+-- WHAT THEY ARE LEFT AT
+
+-- what they answer of a lawful card
+module _ (c : Card) (l : lawful c ≡ true) where
+  read-answers : readRegister c 0 ≡ value (withTimeLatch c (wordsNow c)) 0 (shown c 0)
+  unfolding readRegister readRefusal given
+  read-answers = simp l
+
+  write-answers : (v : ℕ) → writeRegister c 0 v ≡ answer (withTimeLatch c (wordsNow c)) 0
+  unfolding writeRegister writeRefusal given written
+  write-answers v = simp l
+
+  edge-answers : (falling t : Bool) → captures (c .event .control) falling ≡ t
+      → Registers.edge c falling ≡ answer (pick t (captured c) c) 0
+  unfolding Registers.edge granted given
+  edge-answers falling t e = simp (l, e)
+
+  reset-answers : Reset.reset c ≡ answer (resetCard (c .clock .time) (c .settings)) 0
+  unfolding Reset.reset granted given
+  reset-answers = simp l
+
+-- an accepted reading or writing of register 0: the words of the card's time, all of one instant
+pub time-request : (c : Card) → number (Call.read 0) c ≡ 0 → after (Call.read 0) c .«time_latch» ≡ wordsNow c
+unfolding after
+time-request c e = ap (λ (v : Value). v .card .«time_latch») (read-answers c (accepted-lawful (Call.read 0) c e))
+
+pub time-written : (v : ℕ) (c : Card) → number (Call.write 0 v) c ≡ 0 → after (Call.write 0 v) c .«time_latch» ≡ wordsNow c
+unfolding after
+time-written v c e = ap (λ (a : Answer). a .card .«time_latch») (write-answers c (accepted-lawful (Call.write 0 v) c e) v)
+
+-- an accepted edge: the words of the card's time if it is captured; any other edge leaves the card as it is
+pub edge-captured : (falling : Bool) (c : Card) → number (Call.edge falling) c ≡ 0 → captures (c .event .control) falling ≡ true → after (Call.edge falling) c .event .latch ≡ wordsNow c
+unfolding after
+edge-captured falling c e t = ap (λ (a : Answer). a .card .event .latch) (edge-answers c (accepted-lawful (Call.edge falling) c e) falling true t)
+
+pub edge-passed : (falling : Bool) (c : Card) → number (Call.edge falling) c ≡ 0 → captures (c .event .control) falling ≡ false → after (Call.edge falling) c ≡ c
+unfolding after
+edge-passed falling c e t = ap (λ (a : Answer). a .card) (edge-answers c (accepted-lawful (Call.edge falling) c e) falling false t)
+
+-- an accepted reset: zeros in both
+pub reset-latches : (c : Card) → number Call.reset c ≡ 0 → (after Call.reset c .«time_latch» ≡ zeroWords) × (after Call.reset c .event .latch ≡ zeroWords)
+unfolding after
+reset-latches c e =
+    let q = reset-answers c (accepted-lawful Call.reset c e) in
+    (ap (λ (a : Answer). a .card .«time_latch») q, ap (λ (a : Answer). a .card .event .latch) q)

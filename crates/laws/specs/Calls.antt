@@ -1,0 +1,188 @@
+-- All calls that take a card, in the page's order: the card afterwards, the number and the values given back, the lent row afterwards, and, in this one place,
+-- the fields that each may touch.
+use Prim.Native.Nat.{ℕ}
+use mathlib.Core.Path.{_≡_}
+use mathlib.Core.Bool.{Bool, false, _||_}
+use mathlib.Core.List.{List, [], _∷_}
+use lib.ListN.{length}
+use lib.Dec.{eqb}
+use Rattle.wire.specs.Digits.{pick}
+use Rattle.clock.specs.declared.setting.StrobeAt.{StrobeAt}
+use Rattle.clock.specs.declared.setting.Dividers.{Dividers}
+use Rattle.card.specs.declared.card.Card.{Card}
+use Rattle.card.specs.declared.registers.InterruptLine.{InterruptLine}
+use Rattle.card.specs.declared.waiting.Waited.{Waited}
+use Rattle.card.specs.Registers
+use Rattle.card.specs.Setting
+use Rattle.card.specs.Waiting
+use Rattle.card.specs.Reset
+use Rattle.card.specs.Saved
+
+-- a call with its arguments, and the row that it is lent
+pub data Call : Type 0 where
+  setTime : (year day hour minute second : ℕ) → Call
+  read : (reg : ℕ) → Call
+  write : (reg v : ℕ) → Call
+  edge : (falling : Bool) → Call
+  line : Call
+  setStrobe : StrobeAt → Call
+  setPeriodic : Dividers → Call
+  wait : (n : ℕ) (row : List ℕ) → Call
+  reset : Call
+  save : (row : List ℕ) → Call
+  load : (bytes : List ℕ) → Call
+
+-- the card afterwards; the line and saving take the card and do not give it back
+unfoldable pub after : Call → Card → Card
+after (Call.setTime year day hour minute second) c = Setting.setTime c year day hour minute second .card
+after (Call.read reg) c = Registers.readRegister c reg .card
+after (Call.write reg v) c = Registers.writeRegister c reg v .card
+after (Call.edge falling) c = Registers.edge c falling .card
+after Call.line c = c
+after (Call.setStrobe s) c = Setting.setStrobe c s .card
+after (Call.setPeriodic d) c = Setting.setPeriodic c d .card
+after (Call.wait n row) c = Waiting.wait c n (length row) .card
+after Call.reset c = Reset.reset c .card
+after (Call.save row) c = c
+after (Call.load bytes) c = Saved.load c bytes .card
+
+-- the number given back
+unfoldable pub number : Call → Card → ℕ
+number (Call.setTime year day hour minute second) c = Setting.setTime c year day hour minute second .number
+number (Call.read reg) c = Registers.readRegister c reg .number
+number (Call.write reg v) c = Registers.writeRegister c reg v .number
+number (Call.edge falling) c = Registers.edge c falling .number
+number Call.line c = Registers.line c .number
+number (Call.setStrobe s) c = Setting.setStrobe c s .number
+number (Call.setPeriodic d) c = Setting.setPeriodic c d .number
+number (Call.wait n row) c = Waiting.wait c n (length row) .waited .number
+number Call.reset c = Reset.reset c .number
+number (Call.save row) c = Saved.saveRefusal c (length row)
+number (Call.load bytes) c = Saved.load c bytes .number
+
+-- the values given back beside card and number
+abbrev lineValues : InterruptLine → List ℕ
+lineValues l = pick (l .up) 1 0 ∷ l .level ∷ l .vector ∷ []
+
+abbrev waitValues : Waited → List ℕ
+waitValues w = w .passed .ticks ∷ w .written ∷ []
+
+unfoldable pub values : Call → Card → List ℕ
+values (Call.setTime year day hour minute second) c = []
+values (Call.read reg) c = Registers.readRegister c reg .value ∷ []
+values (Call.write reg v) c = []
+values (Call.edge falling) c = []
+values Call.line c = lineValues (Registers.line c)
+values (Call.setStrobe s) c = []
+values (Call.setPeriodic d) c = []
+values (Call.wait n row) c = waitValues (Waiting.wait c n (length row) .waited)
+values Call.reset c = []
+values (Call.save row) c = []
+values (Call.load bytes) c = []
+
+-- the row that a call is lent, and what it leaves in it
+unfoldable pub lent : Call → List ℕ
+lent (Call.setTime year day hour minute second) = []
+lent (Call.read reg) = []
+lent (Call.write reg v) = []
+lent (Call.edge falling) = []
+lent Call.line = []
+lent (Call.setStrobe s) = []
+lent (Call.setPeriodic d) = []
+lent (Call.wait n row) = row
+lent Call.reset = []
+lent (Call.save row) = row
+lent (Call.load bytes) = bytes
+
+unfoldable pub left : Call → Card → List ℕ
+left (Call.setTime year day hour minute second) c = []
+left (Call.read reg) c = []
+left (Call.write reg v) c = []
+left (Call.edge falling) c = []
+left Call.line c = []
+left (Call.setStrobe s) c = []
+left (Call.setPeriodic d) c = []
+left (Call.wait n row) c = Waiting.rowWaited c n row
+left Call.reset c = []
+left (Call.save row) c = Saved.rowSaved c row
+left (Call.load bytes) c = bytes
+
+-- FIELDS
+
+pub data Field : Type 0 where
+  queue time strobe periodic timeLatch control eventLatch settings mask pending level vector done : Field
+
+-- fields are told apart by their place in the card
+abbrev place : Field → ℕ
+place Field.queue = 0
+place Field.time = 1
+place Field.strobe = 2
+place Field.periodic = 3
+place Field.timeLatch = 4
+place Field.control = 5
+place Field.eventLatch = 6
+place Field.settings = 7
+place Field.mask = 8
+place Field.pending = 9
+place Field.level = 10
+place Field.vector = 11
+place Field.done = 12
+
+unfoldable pub among : List Field → Field → Bool
+among [] f = false
+among (g ∷ gs) f = eqb (place f) (place g) || among gs f
+
+-- d is c in each field but these
+unfoldable pub Same : List Field → Card → Card → Type 0
+Same fs c d = d ≡ record {
+  queue = pick (among fs Field.queue) (d .queue) (c .queue);
+  clock = record {
+    time = pick (among fs Field.time) (d .clock .time) (c .clock .time);
+    strobe = pick (among fs Field.strobe) (d .clock .strobe) (c .clock .strobe);
+    periodic = pick (among fs Field.periodic) (d .clock .periodic) (c .clock .periodic);
+  };
+  «time_latch» = pick (among fs Field.timeLatch) (d .«time_latch») (c .«time_latch»);
+  event = record {
+    control = pick (among fs Field.control) (d .event .control) (c .event .control);
+    latch = pick (among fs Field.eventLatch) (d .event .latch) (c .event .latch);
+  };
+  settings = pick (among fs Field.settings) (d .settings) (c .settings);
+  interrupts = record {
+    mask = pick (among fs Field.mask) (d .interrupts .mask) (c .interrupts .mask);
+    pending = pick (among fs Field.pending) (d .interrupts .pending) (c .interrupts .pending);
+    level = pick (among fs Field.level) (d .interrupts .level) (c .interrupts .level);
+    vector = pick (among fs Field.vector) (d .interrupts .vector) (c .interrupts .vector);
+  };
+  done = pick (among fs Field.done) (d .done) (c .done);
+}
+
+-- what a register's reading and writing may touch
+unfoldable pub readTouches : ℕ → List Field
+readTouches reg = pick (eqb reg 0) (Field.timeLatch ∷ []) []
+
+unfoldable pub writeTouches : ℕ → List Field
+writeTouches reg =
+    pick (eqb reg 0) (Field.timeLatch ∷ [])
+    (pick (eqb reg 11) (Field.control ∷ [])
+    (pick (eqb reg 12) (Field.done ∷ Field.queue ∷ Field.settings ∷ [])
+    (pick (eqb reg 13) (Field.queue ∷ [])
+    (pick (eqb reg 14) (Field.mask ∷ [])
+    (pick (eqb reg 15) (Field.pending ∷ [])
+    (pick (eqb reg 16) (Field.level ∷ [])
+    (pick (eqb reg 17) (Field.vector ∷ [])
+    [])))))))
+
+-- what a call may touch
+unfoldable pub touches : Call → List Field
+touches (Call.setTime year day hour minute second) = Field.time ∷ []
+touches (Call.read reg) = readTouches reg
+touches (Call.write reg v) = writeTouches reg
+touches (Call.edge falling) = Field.eventLatch ∷ Field.pending ∷ []
+touches Call.line = []
+touches (Call.setStrobe s) = Field.strobe ∷ []
+touches (Call.setPeriodic d) = Field.periodic ∷ []
+touches (Call.wait n row) = Field.time ∷ Field.pending ∷ Field.periodic ∷ []
+touches Call.reset =
+    Field.timeLatch ∷ Field.eventLatch ∷ Field.control ∷ Field.done ∷ Field.mask ∷ Field.pending ∷ Field.level ∷ Field.vector ∷ Field.queue ∷ Field.settings ∷ Field.strobe ∷ Field.periodic ∷ []
+touches (Call.save row) = []
+touches (Call.load bytes) = Field.settings ∷ []

@@ -1,0 +1,66 @@
+-- What a row reads as, by the table of its refusals: the packet that it holds if no line is given, else the number. Assumes nothing.
+use Prim.Native.Nat.{ℕ, _≤_}
+use mathlib.Core.Path.{_≡_, refl, sym, ap, subst, _∙_}
+use mathlib.Core.Bool.{Bool, true, false, _&&_}
+use mathlib.Core.List.{List, [], _∷_}
+use native.Mathlib.Omega.{arith}
+use lib.Dec.{leb, eqb}
+use borrow.Author.Tests.{eqb-true, eqb-false, eq-eqb, leb-true}
+use Rattle.wire.specs.Digits.{pick}
+use Rattle.wire.specs.Numbers.{Line, given}
+use Rattle.wire.specs.Packets.{frameLines, bodyLines, packetLines, packetRefusal, packetIn, readAs, readPacket, numberRead}
+use Rattle.wire.specs.declared.packets.Packet.{Packet}
+use Rattle.wire.specs.declared.packets.PacketRead.{PacketRead}
+use Rattle.wire.specs.declared.packets.PacketRead.the-variants as PacketRead
+use Rattle.wire.proofs.digits.Laws.{and-both}
+
+by-number : (n : ℕ) (p : Packet) (t : Bool) → eqb n 0 ≡ t → numberRead (pick t (PacketRead.Is p) (PacketRead.Refused n)) ≡ n
+by-number n p true e = sym (eqb-true n 0 e)
+by-number n p false e = refl
+
+-- the number of what a row reads as is the number that its table gives
+pub number-read : (row : List ℕ) → numberRead (readPacket row) ≡ packetRefusal row
+unfolding readPacket
+number-read row = by-number (packetRefusal row) (packetIn row) (eqb (packetRefusal row) 0) refl
+
+pub reads-in : (row : List ℕ) → packetRefusal row ≡ 0 → readPacket row ≡ PacketRead.Is (packetIn row)
+unfolding readPacket
+reads-in row e = simp (eq-eqb (packetRefusal row) 0 e)
+
+is-by : (n : ℕ) (p q : Packet) (t : Bool) → eqb n 0 ≡ t → pick t (PacketRead.Is p) (PacketRead.Refused n) ≡ PacketRead.Is q → (n ≡ 0) × (p ≡ q)
+is-by n p q true e h = (eqb-true n 0 e, cc)
+is-by n p q false e h = absurd (let z : _≡_ {A = ℕ} 0 1 = cc in omega arith)
+
+refused-by : (n m : ℕ) (p : Packet) (t : Bool) → eqb n 0 ≡ t → pick t (PacketRead.Is p) (PacketRead.Refused n) ≡ PacketRead.Refused m → (n ≡ m) × (n ≡ 0 → ⊥)
+refused-by n m p true e h = absurd (let z : _≡_ {A = ℕ} 0 1 = cc in omega arith)
+refused-by n m p false e h = (cc, eqb-false n 0 e)
+
+pub read-is : (row : List ℕ) (q : Packet) → readPacket row ≡ PacketRead.Is q → (packetRefusal row ≡ 0) × (packetIn row ≡ q)
+unfolding readPacket
+read-is row q h = is-by (packetRefusal row) (packetIn row) q (eqb (packetRefusal row) 0) refl h
+
+pub read-refused : (row : List ℕ) (m : ℕ) → readPacket row ≡ PacketRead.Refused m → (packetRefusal row ≡ m) × (packetRefusal row ≡ 0 → ⊥)
+unfolding readPacket
+read-refused row m h = refused-by (packetRefusal row) m (packetIn row) (eqb (packetRefusal row) 0) refl h
+
+-- a table whose numbers are all from a to b gives none but these
+unfoldable within : ℕ → ℕ → List Line → Bool
+within a b [] = true
+within a b (l ∷ ls) = leb a (l .number) && (leb (l .number) b && within a b ls)
+
+step : (t : Bool) (a b m g : ℕ) → a ≤ m → m ≤ b → ((g ≡ 0 → ⊥) → (a ≤ g) × (g ≤ b)) → (pick t m g ≡ 0 → ⊥) → (a ≤ pick t m g) × (pick t m g ≤ b)
+step true a b m g l h f z = (l, h)
+step false a b m g l h f z = f z
+
+given-within : (a b : ℕ) (ls : List Line) → within a b ls ≡ true → (given ls ≡ 0 → ⊥) → (a ≤ given ls) × (given ls ≤ b)
+unfolding given within
+given-within a b [] h = λ z. absurd (z refl)
+given-within a b (l ∷ ls) h =
+    let f = and-both (leb a (l .number)) (leb (l .number) b && within a b ls) h in
+    let g = and-both (leb (l .number) b) (within a b ls) (f .1) in
+    step (l .holds) a b (l .number) (given ls) (leb-true a (l .number) (f .0)) (leb-true (l .number) b (g .0)) (given-within a b ls (g .1))
+
+-- a packet is refused by 4 to 10
+pub packet-number : (row : List ℕ) → (packetRefusal row ≡ 0 → ⊥) → (4 ≤ packetRefusal row) × (packetRefusal row ≤ 10)
+unfolding packetRefusal frameLines bodyLines within
+packet-number row = given-within 4 10 (packetLines row) refl
