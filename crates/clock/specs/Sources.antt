@@ -7,7 +7,6 @@ use lib.Dec.{leb, eqb}
 use Rattle.wire.specs.Digits.{pick}
 use Rattle.wire.specs.Time.{ticksOfDay}
 use Rattle.clock.specs.declared.clock.Strobe.{Strobe}
-use Rattle.clock.specs.declared.clock.Periodic.{Periodic}
 use Rattle.clock.specs.declared.clock.Clock.{Clock}
 use Rattle.clock.specs.declared.time.Time.{Time}
 use Rattle.clock.specs.declared.falling.Source.{Source}

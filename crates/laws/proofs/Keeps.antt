@@ -1,7 +1,7 @@
 -- Every call leaves a lawful card lawful, and a fresh card is: so no chain of calls leads out. By the cases of Outcomes, part by part. Assumes nothing.
 use Prim.Native.Nat.{ℕ, _+_, _/_, _%_, _≤_, _<_}
 use mathlib.Core.Path.{_≡_, refl, sym, ap, _∙_}
-use mathlib.Core.Bool.{Bool, true, false, _&&_, not, or-true}
+use mathlib.Core.Bool.{Bool, true, false, _&&_, or-true}
 use mathlib.Core.List.{List, [], _∷_}
 use native.Mathlib.Omega.{arith}
 use lib.Dec.{eqb, leb, ltb}
@@ -9,7 +9,7 @@ use lib.ListN.{length, set, drop}
 use lib.Seq.{drop-set-lt, drop-drop}
 use borrow.Author.Tests.{eqb-true, eq-eqb, ltb-true, lt-ltb, leb-true, le-leb}
 use Rattle.wire.specs.Digits.{below, unpacked}
-use Rattle.wire.specs.Numbers.{_if_, given}
+use Rattle.wire.specs.Numbers.{given}
 use Rattle.wire.specs.Words.{readWords, zeroWords}
 use Rattle.wire.specs.Packets.{packetIn, modeMeans, pairMeans, offsetFits, fits, means}
 use Rattle.wire.specs.declared.packets.Packet.{Packet}
@@ -31,14 +31,13 @@ use Rattle.parts.specs.declared.event.Event.{Event}
 use Rattle.parts.specs.declared.settings.Settings.{Settings}
 use Rattle.parts.specs.declared.interrupts.Interrupts.{Interrupts}
 use Rattle.card.specs.declared.card.Card.{Card}
-use Rattle.parts.specs.Events.{withControl, withLatch, latchLawful, eventLawful}
-use Rattle.parts.specs.Interrupts.{withMask, withPending, withLevel, withVector, interruptsLawful}
+use Rattle.parts.specs.Events.{withLatch, latchLawful, eventLawful}
+use Rattle.parts.specs.Interrupts.{interruptsLawful}
 use Rattle.card.specs.Cards.{withClock, withTimeLatch, withEvent, withInterrupts, withDone, withQueue, withSettings}
 use Rattle.parts.specs.Queues.{queueLawful, emptyQueue, queued, enqueued}
 use Rattle.parts.specs.Settings.{settingsLawful, applied}
 use Rattle.card.specs.Lawful.{lawful}
 use Rattle.parts.specs.Pending.{bit, raised, lowered, cleared}
-use Rattle.card.specs.Packets.{ackRefusal, doneCleared}
 use Rattle.card.specs.Registers.{wordsNow}
 use Rattle.card.specs.Waiting.{waitRefusal, cardAfter}
 use Rattle.card.specs.Reset.{resetCard, freshCard}

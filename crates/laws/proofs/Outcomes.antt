@@ -12,7 +12,7 @@ use lib.Dec.{eqb, leb, ltb}
 use lib.ListN.{length}
 use borrow.Author.Tests.{eqb-true, eqb-false, ne-eqb, eq-eqb, ltb-false, le-leb}
 use Rattle.wire.specs.Digits.{pick, unpacked}
-use Rattle.wire.specs.Numbers.{Line, _if_, given, absent}
+use Rattle.wire.specs.Numbers.{_if_, given, absent}
 use Rattle.wire.specs.Packets.{packetIn}
 use Rattle.wire.proofs.numbers.Laws.{given-absent}
 use Rattle.wire.proofs.digits.Laws.{lt-or-le}
@@ -26,7 +26,6 @@ use Rattle.parts.specs.declared.interrupts.Interrupts.{Interrupts}
 use Rattle.card.specs.declared.card.Card.{Card}
 use Rattle.card.specs.declared.card.Answer.{Answer}
 use Rattle.card.specs.declared.registers.Value.{Value}
-use Rattle.card.specs.declared.registers.InterruptLine.{InterruptLine}
 use Rattle.card.specs.declared.waiting.WaitedCard.{WaitedCard}
 use Rattle.parts.specs.Events.{withControl}
 use Rattle.parts.specs.Interrupts.{withMask, withPending, withLevel, withVector, interruptsWritten, lineUp}

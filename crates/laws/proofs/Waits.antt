@@ -1,17 +1,16 @@
 -- The starred waits of the page, of `wait` and its row: lines of a table, each of every lawful card with the page's clock and nothing pending. The records are
 -- computed in the clock's `waiting/Examples`. Assumes nothing.
 use Prim.Native.Nat.{ℕ, pred, _+_, _/_, _%_, _<_}
-use mathlib.Core.Path.{_≡_, refl, sym, _∙_, ap}
-use mathlib.Core.Bool.{Bool, true, false}
+use mathlib.Core.Path.{_≡_, refl, ap}
+use mathlib.Core.Bool.{true, false}
 use mathlib.Core.List.{List, [], _∷_, _++_}
-use borrow.Author.Tests.{ne-eqb}
 use lib.Dec.{leb, eqb, lit<}
 use lib.ListN.{length, getD, take, drop}
 use Rattle.wire.specs.Digits.{pick}
 use Rattle.wire.specs.Numbers.{given}
 use Rattle.clock.specs.declared.clock.Periodic.the-variants as Periodic
 use Rattle.clock.specs.Time.{instant}
-use Rattle.clock.specs.Waiting.{records, lists, listed, passed, fell, countLater, clockLater, waitLines}
+use Rattle.clock.specs.Waiting.{records, lists, listed, passed, fell, countLater, clockLater}
 use Rattle.clock.proofs.time.Laws.{within-day}
 use Rattle.clock.proofs.waiting.Examples.{pageClock, at-200, at-400}
 use Rattle.card.specs.declared.card.Card.{Card}

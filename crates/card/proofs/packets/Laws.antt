@@ -3,9 +3,9 @@ use Prim.Native.Nat.{ℕ}
 use mathlib.Core.Path.{_≡_, refl, sym, ap, _∙_}
 use mathlib.Core.Bool.{Bool, true, false}
 use lib.Dec.{eqb}
-use borrow.Author.Tests.{eq-eqb, ne-eqb}
+use borrow.Author.Tests.{ne-eqb}
 use Rattle.wire.specs.Digits.{pick}
-use Rattle.wire.specs.Packets.{packetIn, readPacket}
+use Rattle.wire.specs.Packets.{readPacket}
 use Rattle.wire.specs.declared.packets.Packet.{Packet}
 use Rattle.wire.specs.declared.packets.PacketRead.the-variants as PacketRead
 use Rattle.wire.proofs.packets.Read.{read-is, read-refused}
@@ -18,7 +18,7 @@ use Rattle.parts.specs.Pending.{bit}
 use Rattle.card.proofs.registers.Laws.{ack-packet}
 use Rattle.parts.specs.Queues.{emptyQueue, queued}
 use Rattle.parts.specs.Settings.{applied}
-use Rattle.card.specs.Packets.{ackRefusal, settingsTaken, taken, doneCleared, acknowledged}
+use Rattle.card.specs.Packets.{ackRefusal, settingsTaken, taken, acknowledged}
 
 abbrev told : Queue → Settings → Taken
 told q s = record { settings = settingsTaken q s; done = eqb (ackRefusal q) 0; number = ackRefusal q }

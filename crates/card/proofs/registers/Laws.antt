@@ -10,7 +10,7 @@ use lib.Dec.{eqb, leb}
 use lib.ListN.{getD, drop, set}
 use borrow.Author.Tests.{le-leb, lt-leb, lt-ltb, le-ltb, eq-eqb, ne-eqb, leb-true}
 use Rattle.wire.specs.Numbers.{given}
-use Rattle.wire.specs.Words.{writable, wordsOf, wordsOrZero}
+use Rattle.wire.specs.Words.{writable, wordsOrZero}
 use Rattle.wire.specs.Packets.{packetRefusal}
 use Rattle.clock.specs.declared.time.Time.{Time}
 use Rattle.clock.specs.Time.{timeLawful}
@@ -20,7 +20,7 @@ use Rattle.parts.specs.declared.queue.Queue.{Queue}
 use Rattle.parts.specs.declared.interrupts.Interrupts.{Interrupts}
 use Rattle.card.specs.declared.card.Card.{Card}
 use Rattle.parts.specs.Events.{withLatch}
-use Rattle.parts.specs.Interrupts.{withPending, withVector, interruptsWritten, lineUp, eventRaised}
+use Rattle.parts.specs.Interrupts.{interruptsWritten, lineUp, eventRaised}
 use Rattle.card.specs.Cards.{answer, granted, withTimeLatch, withEvent, withInterrupts, withQueue}
 use Rattle.parts.specs.Queues.{queueLawful, queued}
 use Rattle.card.specs.Lawful.{lawful}

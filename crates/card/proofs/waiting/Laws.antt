@@ -1,15 +1,15 @@
 -- A wait of a card that is lawful elsewhere is its clock's. Assumes nothing.
 use Prim.Native.Nat.{ℕ}
-use mathlib.Core.Path.{_≡_, refl, sym, ap, _∙_}
+use mathlib.Core.Path.{_≡_, refl, ap, _∙_}
 use mathlib.Core.Bool.{Bool, true, false, not}
-use mathlib.Core.List.{List, [], _∷_}
+use mathlib.Core.List.{List, _∷_}
 use lib.Dec.{eqb}
 use lib.ListN.{length}
 use borrow.Author.Tests.{eqb-true, eqb-false}
 use Rattle.wire.specs.Numbers.{_if_, given}
 use Rattle.clock.specs.declared.waiting.Passed.{Passed}
 use Rattle.clock.specs.Clocks.{clockLawful}
-use Rattle.clock.specs.Waiting.{listed, passed, rowListed, lists, fell, clockLater, waitLines, pass, rowPassed}
+use Rattle.clock.specs.Waiting.{passed, fell, waitLines, pass, rowPassed}
 use Rattle.clock.proofs.waiting.Answer.{pass-done, pass-not, row-done, row-not}
 use Rattle.parts.specs.declared.interrupts.Interrupts.{Interrupts}
 use Rattle.parts.proofs.interrupts.Laws.{none-raised}
@@ -17,7 +17,7 @@ use Rattle.card.specs.declared.card.Card.{Card}
 use Rattle.card.specs.declared.waiting.WaitedCard.{WaitedCard}
 use Rattle.parts.specs.Interrupts.{withPending}
 use Rattle.card.specs.Cards.{withClock, withInterrupts}
-use Rattle.card.specs.Lawful.{restLawful, lawful}
+use Rattle.card.specs.Lawful.{restLawful}
 use Rattle.card.specs.Waiting.{pendingAfter, cardAfter, waitRefusal, waited, wait, rowWaited}
 use Rattle.card.proofs.lawful.Laws.{rest-lawful, rest-unlawful}
 

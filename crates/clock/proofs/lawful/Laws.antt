@@ -1,6 +1,6 @@
 -- A lawful clock is lawful in each part, and a clock lawful in each part is. Assumes nothing.
 use mathlib.Core.Path.{_≡_}
-use mathlib.Core.Bool.{true, _&&_}
+use mathlib.Core.Bool.{true}
 use Rattle.wire.proofs.digits.Laws.{and-both}
 use Rattle.clock.specs.declared.clock.Clock.{Clock}
 use Rattle.clock.specs.Time.{timeLawful}

@@ -1,6 +1,6 @@
 -- What a row reads as, by the table of its refusals: the packet that it holds if no line is given, else the number. Assumes nothing.
 use Prim.Native.Nat.{ℕ, _≤_}
-use mathlib.Core.Path.{_≡_, refl, sym, ap, subst, _∙_}
+use mathlib.Core.Path.{_≡_, refl, sym}
 use mathlib.Core.Bool.{Bool, true, false, _&&_}
 use mathlib.Core.List.{List, [], _∷_}
 use native.Mathlib.Omega.{arith}
@@ -8,7 +8,7 @@ use lib.Dec.{leb, eqb}
 use borrow.Author.Tests.{eqb-true, eqb-false, eq-eqb, leb-true}
 use Rattle.wire.specs.Digits.{pick}
 use Rattle.wire.specs.Numbers.{Line, given}
-use Rattle.wire.specs.Packets.{frameLines, bodyLines, packetLines, packetRefusal, packetIn, readAs, readPacket, numberRead}
+use Rattle.wire.specs.Packets.{frameLines, bodyLines, packetLines, packetRefusal, packetIn, readPacket, numberRead}
 use Rattle.wire.specs.declared.packets.Packet.{Packet}
 use Rattle.wire.specs.declared.packets.PacketRead.{PacketRead}
 use Rattle.wire.specs.declared.packets.PacketRead.the-variants as PacketRead
