@@ -177,8 +177,9 @@ module _ (c : Card) (reg v : ℕ) where
       (λ e13. by (λ (i : Interrupts). Writes (answer (withInterrupts c i) 0)) (eqb reg 14) (λ e. at 14 e _ (accepted l (writes-mask v)))
       (λ e14. by (λ (i : Interrupts). Writes (answer (withInterrupts c i) 0)) (eqb reg 15) (λ e. at 15 e _ (accepted l (clears-pending v)))
       (λ e15. by (λ (i : Interrupts). Writes (answer (withInterrupts c i) 0)) (eqb reg 16) (λ e. at 16 e _ (accepted l (writes-level v)))
-      (λ e16. at 17 (eq-eqb reg 17 (last (eqb-false reg 0 e0)
-      (eqb-false reg 11 e11) (eqb-false reg 12 e12) (eqb-false reg 13 e13) (eqb-false reg 14 e14) (eqb-false reg 15 e15) (eqb-false reg 16 e16))) _ (accepted l (writes-vector v)))))))))
+      (λ e16. by (λ (i : Interrupts). Writes (answer (withInterrupts c i) 0)) (eqb reg 17) (λ e. at 17 e _ (accepted l (writes-vector v)))
+      (λ e17. absurd (eqb-false reg 17 e17 (last (eqb-false reg 0 e0)
+      (eqb-false reg 11 e11) (eqb-false reg 12 e12) (eqb-false reg 13 e13) (eqb-false reg 14 e14) (eqb-false reg 15 e15) (eqb-false reg 16 e16)))))))))))
     where
       room : eqb reg 13 ≡ true → c .queue .fill < 64
       room e = lt-of-le-ne (queue-within c l) (eqb-false (c .queue .fill) 64 (sym (ap (λ (t : Bool). t && eqb (c .queue .fill) 64) e) ∙ f))

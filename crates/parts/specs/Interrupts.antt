@@ -24,13 +24,14 @@ withVector i v = record { mask = i .mask; pending = i .pending; level = i .level
 unfoldable pub interruptsLawful : Interrupts → Bool
 interruptsLawful i = ltb (i .mask) 32 && (ltb (i .pending) 32 && ltb (i .level) 8)
 
--- writing MASK, INTSTAT, LEVEL or VECTOR; bits not named are ignored
+-- writing MASK, INTSTAT, LEVEL or VECTOR; bits not named are ignored, and a register of any other number is none of these
 unfoldable pub interruptsWritten : Interrupts → ℕ → ℕ → Interrupts
 interruptsWritten i reg v =
     pick (eqb reg 14) (withMask i (v % 32))
     (pick (eqb reg 15) (withPending i (cleared v (i .pending)))
     (pick (eqb reg 16) (withLevel i (v % 8))
-    (withVector i (v % 256))))
+    (pick (eqb reg 17) (withVector i (v % 256))
+    i)))
 
 -- a captured edge raises pending bit 0
 abbrev pub eventRaised : Interrupts → Interrupts

@@ -26,7 +26,7 @@ pub fn interrupts_fit(i: Interrupts) -> bool
     i.level < 8
 }
 
-// The interrupt registers after writing one of them: MASK, INTSTAT, LEVEL or VECTOR.
+// The interrupt registers after writing one of them: MASK, INTSTAT, LEVEL or VECTOR. A register of any other number leaves them.
 pub fn write_interrupts(interrupts: Interrupts, reg: u8, value: u16) -> Interrupts
     ensures { λ r. ⌜ r ≡ interruptsWritten interrupts reg value ⌝ }
 {
@@ -35,7 +35,8 @@ pub fn write_interrupts(interrupts: Interrupts, reg: u8, value: u16) -> Interrup
         14 => i.mask = (value % 32) as u8,
         15 => i.pending = clear(value, interrupts.pending),
         16 => i.level = (value % 8) as u8,
-        _ => i.vector = (value % 256) as u8,
+        17 => i.vector = (value % 256) as u8,
+        _ => {}
     }
     i
 }

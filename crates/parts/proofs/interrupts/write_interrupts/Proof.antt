@@ -3,7 +3,7 @@
 use Prim.Native.Nat.{ℕ}
 use mathlib.Core.Path.{sym, ap, _∙_}
 use Rattle.parts.specs.Interrupts.{withPending, interruptsWritten}
-use Rattle.parts.proofs.interrupts.Laws.{writes-vector}
+use Rattle.parts.proofs.interrupts.Laws.{writes-none}
 use borrow.Author.Needs.{needs}
 use Rattle.parts.proofs.interrupts.write_interrupts.Statement.{statement}
 use Rattle.parts.proofs.interrupts.write_interrupts.Tie as tie
@@ -33,7 +33,11 @@ unfolding interruptsWritten
 returns-3 c = ap (λ (r : ℕ). interruptsWritten (c .before .args .interrupts) r (c .before .args .value)) (sym (c .match .keys3))
 
 returns-4 : tie.Need-returns-4
-returns-4 c = let r = c .match .rest in writes-vector (c .before .args .interrupts) (c .before .args .reg) (c .before .args .value) (r .0 .0 .1) (r .0 .1) (r .1)
+unfolding interruptsWritten
+returns-4 c = ap (λ (r : ℕ). interruptsWritten (c .before .args .interrupts) r (c .before .args .value)) (sym (c .match .keys4))
+
+returns-5 : tie.Need-returns-5
+returns-5 c = let r = c .match .rest in writes-none (c .before .args .interrupts) (c .before .args .reg) (c .before .args .value) (r .0 .0 .0 .1) (r .0 .0 .1) (r .0 .1) (r .1)
 
 pub write-interrupts-spec : {M : Type 1} → statement M
 write-interrupts-spec =
@@ -46,4 +50,5 @@ write-interrupts-spec =
     returns
     returns-2
     returns-3
-    returns-4)
+    returns-4
+    returns-5)
