@@ -46,10 +46,14 @@ def wait(ticks, card=FRESH):
 
 
 def save(places, card=FRESH):
+    """Into 5 places or into 4."""
+    assert places in (4, 5)
     return "p" + card + digits([places])
 
 
 def load(*form, card=FRESH):
+    """Five bytes or four."""
+    assert len(form) in (4, 5)
     return "o" + card + digits(form)
 
 
@@ -145,8 +149,8 @@ CASES = [
     ("torn card, strobe", strobe(1000, TORN), 18),
     ("torn card, periodic", dividers(1, 1, TORN), 18),
     ("torn card, reset", "x" + TORN, 18),
-    ("torn card, save", save(1, TORN), 18),
-    ("torn card, load", load(0, card=TORN), 18),
+    ("torn card, save", save(4, TORN), 18),
+    ("torn card, load", load(0, 0, 0, 0, card=TORN), 18),
     ("torn card, wait", wait(DAY + 1, TORN), 18),
 ]
 

@@ -147,7 +147,7 @@ fn write_refusal(known: bool, reg: u8, fill: usize) -> u8
     numbers::DONE
 }
 
-// Writes any register but FIFO, of a card known to be lawful or not. One way out beside that of ACK, so that the card is copied once.
+// Writes any register but FIFO, of a card known to be lawful or not.
 fn write_other(card: Card, known: bool, reg: u8, value: u16) -> Answer
     requires { ⌜ (known ≡ lawful card) × (reg ≡ 13 → ⊥) ⌝ }
     ensures { λ r. ⌜ r ≡ writeRegister card reg value ⌝ }
