@@ -10,7 +10,7 @@ import os
 import random
 import sys
 
-from listing import KINDS, listing
+from listing import KINDS, PAIRS_WITHOUT_MEANING, listing
 
 
 def packet(text):
@@ -41,21 +41,54 @@ def guide():
 
 
 def tables():
-    """Every id with each byte in each place of its data, the other places held at a byte of their kind."""
+    """Every id with each byte in each place of its data, the other places held at a byte of their kind; then H with every pair of letters."""
     out = []
     for ident, kinds in KINDS.items():
         good = bytes(kind[0] for kind in kinds)
         for place in range(len(kinds)):
             for byte in range(256):
                 out.append(packet(ident + good[:place] + bytes([byte]) + good[place + 1:]))
-    return b"".join(out)
+    return b"".join(out) + pairs()
+
+
+def pairs():
+    """H with every pair of capital letters, and with bytes that are none in either place."""
+    letters = bytes(range(ord("A"), ord("Z") + 1))
+    others = b"abcmdnx09+- \x00\x01\x16\x18\x7f\x80\xff"
+    capital = [packet(b"H" + bytes([f, m])) for f in letters for m in letters]
+    mixed = [packet(b"H" + bytes(two)) for f in b"ABCNX" for o in others for two in ((f, o), (o, ord("M")), (o, ord("D")))]
+    return b"".join(capital + mixed)
+
+
+def torn(source):
+    """A packet, whole or torn in one way: each way leads to another number most of the time."""
+    ident = bytes([source.choice(b"AGHIK")])
+    kinds = KINDS[ident]
+    data = bytes(source.choice(kind) for kind in kinds)
+    place = source.randrange(len(data))
+    anything = bytes(source.choice(b"0123456789ABCDEHIKMNX+-") for _ in range(source.randrange(60)))
+    return source.choice((
+        packet(ident + data),
+        packet(b"A" + bytes([source.choice(b"47")])),
+        packet(b"H" + source.choice(PAIRS_WITHOUT_MEANING)),
+        packet(ident + data[:place] + bytes([source.randrange(256)]) + data[place + 1:]),
+        packet(ident + data[:place]),
+        packet(ident + data + anything[:4]),
+        packet(bytes([source.randrange(256)]) + data),
+        packet(b""),
+        bytes([source.randrange(256)]) + ident + data + b"\x17",
+        b"\x01" + ident + anything.ljust(39, b"0"),
+        b"\x01" + ident + anything,
+    ))
 
 
 def noise():
-    """Bytes without order, more than one read brings, mostly of those that packets are made of."""
+    """Packets of every sort, whole and torn, more than one read brings, and then bytes without order. Every answer is common but 6, which the bench's cuts leave to
+    the last rest alone."""
     source = random.Random(635)
     common = b"\x01\x01\x17\x17AGHIK+-0123456789BCDEMNX"
-    return bytes(source.choice(common) if source.random() < 0.97 else source.randrange(256) for _ in range(100_000))
+    bytes_ = bytes(source.choice(common) if source.random() < 0.97 else source.randrange(256) for _ in range(20_000))
+    return b"".join(torn(source) for _ in range(16_000)) + bytes_ + b"\x17\x01A0"
 
 
 VECTORS = {

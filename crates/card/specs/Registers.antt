@@ -5,7 +5,7 @@ use mathlib.Core.List.{List, [], _∷_}
 use lib.ListN.{getD}
 use lib.Dec.{leb, ltb, eqb}
 use Rattle.wire.specs.Digits.{pick}
-use Rattle.wire.specs.Numbers.{_if_, given}
+use Rattle.wire.specs.Numbers.{Line, _if_, given}
 use Rattle.wire.specs.Words.{wordsOf}
 use Rattle.clock.specs.declared.time.Time.{Time}
 use Rattle.parts.specs.Pending.{bit}
@@ -37,13 +37,15 @@ wordsNow c = wordsAt (c .clock .time)
 -- READING
 
 -- 18, 1 no such register, 2 FIFO; of a card known to be lawful or not
-unfoldable pub readRefusal : Bool → ℕ → ℕ
-readRefusal known reg =
-    given
-    (18 if not known
+abbrev pub readLines : Bool → ℕ → List Line
+readLines known reg =
+    18 if not known
     ∷ 1 if ltb lastRegister reg
     ∷ 2 if eqb reg 13
-    ∷ [])
+    ∷ []
+
+unfoldable pub readRefusal : Bool → ℕ → ℕ
+readRefusal known reg = given (readLines known reg)
 
 -- what a register reads as; bits not named read as 0
 unfoldable pub shown : Card → ℕ → ℕ
@@ -66,14 +68,16 @@ readRegister c reg =
 -- WRITING
 
 -- 18, 1 no such register, 2 the words of the latches, 3 queue full; of a card known to be lawful or not, and its queue's fill
-unfoldable pub writeRefusal : Bool → ℕ → ℕ → ℕ
-writeRefusal known reg fill =
-    given
-    (18 if not known
+abbrev pub writeLines : Bool → ℕ → ℕ → List Line
+writeLines known reg fill =
+    18 if not known
     ∷ 1 if ltb lastRegister reg
     ∷ 2 if (leb 1 reg && leb reg 10)
     ∷ 3 if (eqb reg 13 && eqb fill 64)
-    ∷ [])
+    ∷ []
+
+unfoldable pub writeRefusal : Bool → ℕ → ℕ → ℕ
+writeRefusal known reg fill = given (writeLines known reg fill)
 
 -- what a register does with a value; bits not named are ignored
 unfoldable pub written : Card → ℕ → ℕ → Answer

@@ -5,7 +5,7 @@ use mathlib.Core.List.{List, [], _∷_, _++_}
 use lib.ListN.{length, drop}
 use lib.Dec.{ltb, eqb}
 use Rattle.wire.specs.Digits.{pick, unpacked}
-use Rattle.wire.specs.Numbers.{_if_, given}
+use Rattle.wire.specs.Numbers.{Line, _if_, given}
 use Rattle.parts.specs.Saved.{savedForm, savedLines, settingsIn}
 use Rattle.card.specs.declared.card.Card.{Card}
 use Rattle.card.specs.declared.card.Answer.{Answer}
@@ -13,8 +13,11 @@ use Rattle.card.specs.Cards.{granted, withSettings}
 use Rattle.card.specs.Lawful.{lawful}
 
 -- 18, and 14 last
+abbrev pub saveLines : Card → ℕ → List Line
+saveLines c room = 18 if not (lawful c) ∷ 14 if ltb room 5 ∷ []
+
 unfoldable pub saveRefusal : Card → ℕ → ℕ
-saveRefusal c room = given (18 if not (lawful c) ∷ 14 if ltb room 5 ∷ [])
+saveRefusal c room = given (saveLines c room)
 
 -- the row after saving: the five bytes in front, the rest as it was; all of it as it was beside a refusal
 unfoldable pub rowSaved : Card → List ℕ → List ℕ

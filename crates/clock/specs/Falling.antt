@@ -26,7 +26,7 @@ unfoldable pub periodicFalls : Periodic → ℕ → Bool
 periodicFalls Periodic.Off k = false
 periodicFalls (Periodic.Every n1 n2 count) k = eqb ((count + k) % (n1 * n2)) 0
 
--- the ranges of both
+-- the ranges of both; that a divider is at most 65,535 and a count below 2 ^ 32 rests on their types, of 16 and 32 bits
 unfoldable pub strobeLawful : Strobe → Bool
 strobeLawful Strobe.Off = true
 strobeLawful (Strobe.Daily ms) = ltb (ms .ms) 86400000

@@ -21,7 +21,7 @@ use Rattle.clock.specs.Waiting.{listed, passed, fell}
 pub record Gap (x p r d : ℕ) : Type 0 where
   pub above : 0 < d
   pub within : d ≤ p
-  pub falls : (x + d) % p ≡ r
+  pub hit : (x + d) % p ≡ r
   pub none : (j : ℕ) → 0 < j → j < d → (x + j) % p ≡ r → ⊥
 
 -- whether second and strobe fall on the k-th tick from a time
@@ -34,7 +34,7 @@ strobeOn s t k = strobeFalls s (later k t .tick .ticks)
 -- what falls on the ticks of a test falls on no tick between a and f, and, if f is within a day, on f
 pub record NextFall (test : ℕ → Bool) (a f : ℕ) : Type 0 where
   pub above : a < f
-  pub falls : f ≤ ticksOfDay → test f ≡ true
+  pub hit : f ≤ ticksOfDay → test f ≡ true
   pub none : (k : ℕ) → a < k → k < f → test k ≡ false
 
 -- after tick a, s has the next fall, and after each fall the next one is a period on

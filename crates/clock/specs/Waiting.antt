@@ -1,7 +1,8 @@
 -- Waiting: the records of a window, from the falling rules alone, and the clock when its ticks have passed.
-use Prim.Native.Nat.{ℕ, zero, suc, pred, _+_, _*_, _/_, _%_}
+use Prim.Native.Nat.{ℕ, zero, suc, pred, _+_, _*_, _/_, _%_, _<_}
+use mathlib.Core.Path.{_≡_}
 use mathlib.Core.Bool.{Bool, false, not, _||_}
-use mathlib.Core.List.{List, [], _∷_, _++_}
+use mathlib.Core.List.{List, [], _∷_, _++_, map}
 use lib.ListN.{length, take, drop, getD}
 use lib.Dec.{leb, ltb, eqb}
 use Rattle.wire.specs.Digits.{pick}
@@ -40,14 +41,24 @@ passed c n room = pick (leb (length (records c n)) room) n (getD (records c n) (
 abbrev pub rowListed : Clock → ℕ → List ℕ → List ℕ
 rowListed c n row = listed c n (length row) ++ drop (length (listed c n (length row))) row
 
+-- records of a wait that began p ticks after another, counted from the start of that one
+abbrev pub movedOn : ℕ → List ℕ → List ℕ
+movedOn p = map (λ (r : ℕ). 8 * p + r)
+
+-- a record stands in a list
+pub record Stands (r : ℕ) (rs : List ℕ) : Type 0 where
+  pub place : ℕ
+  pub within : place < length rs
+  pub found : getD rs place 0 ≡ r
+
 -- some record has the source s, which is 1, 2 or 4
-unfoldable pub lists : ℕ → List ℕ → Bool
-lists s [] = false
-lists s (r ∷ rs) = eqb (r / s % 2) 1 || lists s rs
+unfoldable pub sourceListed : ℕ → List ℕ → Bool
+sourceListed s [] = false
+sourceListed s (r ∷ rs) = eqb (r / s % 2) 1 || sourceListed s rs
 
 -- the sources that records have
 abbrev pub fell : List ℕ → Fell
-fell rs = record { periodic = lists 1 rs; strobe = lists 2 rs; second = lists 4 rs }
+fell rs = record { periodic = sourceListed 1 rs; strobe = sourceListed 2 rs; second = sourceListed 4 rs }
 
 -- THE CLOCK AFTERWARDS
 

@@ -1,67 +1,87 @@
--- The page's starred examples, as one computed statement over one table. Words, packets and the saved form are computed from their definitions; the waits
--- are lines of `Waits`, of every lawful card with that time, strobe, dividers and count. Assumes nothing.
+-- The page's starred examples hold: one computed statement over one table. Words, packets and the saved form are computed from their definitions; the waits
+-- are in `Waits`. Assumes nothing.
 use Prim.Native.Nat.{ℕ}
-use mathlib.Core.Path.{_≡_, refl}
-use mathlib.Core.List.{List, [], _∷_, map}
+use mathlib.Core.Path.{_≡_, refl, sym, ap, _∙_}
+use mathlib.Core.Bool.{true}
+use mathlib.Core.List.{List, [], _∷_, _++_, map}
 use lib.IntN.{pos}
+use lib.ListN.{length, drop}
 use Rattle.wire.specs.Digits.{digits, num, below, packed, unpacked}
-use Rattle.wire.specs.Numbers.{given}
 use Rattle.wire.specs.Time.{hourOf, minuteOf, secondOf, fractionOf, tickAt}
-use Rattle.wire.specs.Words.{wordsOf, timeDigits, readWords, readDigits, digitsRefusal, decimal, field, inRange, timeRead}
-use Rattle.wire.specs.Packets.{readPacket, packetRefusal, frameLines, bodyLines, has, placeOf, bodyOf, kindsOf, ofKinds, meaning, means, modeMeans, offsetOf, values, formatOf, modulationOf}
+use Rattle.wire.specs.Words.{wordsOf, writable, wordsOrZero, writeWords, timeDigits, readWords, readDigits, digitsRefusal, decimal, field, inRange}
+use Rattle.wire.specs.Packets.{readPacket, packetRefusal, frameLines, bodyLines, has, placeOf, bodyOf, kindsOf, ofKinds, meaning, offsetOf, values, formatOf, modulationOf, bytesOf, framed, dataOf, signOf, ascii, fits, means}
 use Rattle.wire.specs.declared.packets.Format.the-variants as Format
 use Rattle.wire.specs.declared.packets.Modulation.the-variants as Modulation
-use Rattle.wire.specs.declared.packets.ClockSource.the-variants as ClockSource
-use Rattle.wire.specs.declared.packets.Generator.the-variants as Generator
+use Rattle.wire.specs.declared.packets.Packet.{Packet}
 use Rattle.wire.specs.declared.packets.Packet.the-variants as Packet
-use Rattle.wire.specs.declared.packets.PacketRead.{PacketRead}
-use Rattle.wire.specs.declared.packets.PacketRead.the-variants as PacketRead
-use Rattle.parts.specs.declared.settings.Settings.{Settings}
-use Rattle.card.specs.declared.card.Card.{Card}
+use Rattle.parts.specs.Queues.{emptyQueue}
+use Rattle.parts.specs.Settings.{applied}
 use Rattle.parts.specs.Saved.{savedForm, settingsBits}
-use Rattle.laws.proofs.Waits.{Line, PageCard, Says, table, Each, examples}
+use Rattle.card.specs.declared.card.Card.{Card}
+use Rattle.card.specs.declared.card.Answer.{Answer}
+use Rattle.card.specs.Cards.{withQueue, withSettings, withDone}
+use Rattle.card.specs.Lawful.{lawful}
+use Rattle.card.specs.Registers.{writeRegister}
+use Rattle.card.specs.Reset.{freshCard}
+use Rattle.card.proofs.saved.Calls.{saves, row-is}
+use Rattle.laws.specs.Calls.{Call, after, afterAll, fed}
+use Rattle.laws.specs.Examples.{puts, pageSettings, pageCalls, page, Wait, Example, Holds, waits, Each}
+use Rattle.laws.proofs.Fed.{fed-packet}
+use Rattle.laws.proofs.Keeps.{fresh-lawful, fresh-queue, keeps-all}
+use Rattle.laws.proofs.Waits.{starred}
 
-pub data Example : Type 0 where
-  -- a day and a tick of day, and their words, both ways
-  words : ℕ → ℕ → List ℕ → Example
-  -- words, and the number that refuses them
-  unread : List ℕ → ℕ → Example
-  -- bytes, and what they read as
-  packet : List ℕ → PacketRead → Example
-  -- settings, and their five bytes
-  saved : Settings → List ℕ → Example
-  -- a wait of 10,000,000 ticks
-  wait : Line → Example
+-- ---- settings set by packets
 
--- what an example says
-abbrev pub Holds : Example → Type 0
-Holds (words day tick ws) = (wordsOf day tick ≡ ws) × (readWords ws ≡ timeRead 0 day tick)
-Holds (unread ws n) = readWords ws ≡ timeRead n 0 0
-Holds (packet bytes r) = readPacket bytes ≡ r
-Holds (saved s bytes) = savedForm s ≡ bytes
-Holds (wait l) = (c : Card) → PageCard (l .ms) c → Says l c
+after-append : (ks js : List Call) (c : Card) → afterAll (ks ++ js) c ≡ afterAll js (afterAll ks c)
+after-append [] js c = refl
+after-append (k ∷ ks) js c = after-append ks js (after k c)
 
-abbrev pub page : List Example
-page =
-    words 45 472291234567 (0x0000 ∷ 0x4513 ∷ 0x0709 ∷ 0x1234 ∷ 0x5670 ∷ [])
-    ∷ unread (0x0000 ∷ 0x45A3 ∷ 0x0709 ∷ 0x1234 ∷ 0x5670 ∷ []) 17
-    ∷ unread (0x0000 ∷ 0x4524 ∷ 0x0709 ∷ 0x1234 ∷ 0x5670 ∷ []) 11
-    ∷ packet (0x01 ∷ 0x47 ∷ 0x2B ∷ 0x30 ∷ 0x30 ∷ 0x32 ∷ 0x35 ∷ 0x30 ∷ 0x30 ∷ 0x30 ∷ 0x17 ∷ []) (PacketRead.Is (Packet.G (pos 25000)))
-    ∷ packet (0x01 ∷ 0x17 ∷ []) (PacketRead.Refused 7)
-    ∷ packet (0x01 ∷ 0x41 ∷ 0x34 ∷ 0x17 ∷ []) (PacketRead.Refused 10)
-    ∷ packet (0x01 ∷ 0x48 ∷ 0x41 ∷ 0x4D ∷ 0x17 ∷ []) (PacketRead.Refused 10)
-    ∷ packet (0x01 ∷ 0x41 ∷ 0x30 ∷ 0x30 ∷ 0x17 ∷ []) (PacketRead.Refused 8)
-    ∷ saved (record { mode = 0; format = Format.B; modulation = Modulation.D; clock = ClockSource.Internal; generator = Generator.B; offset = pos 25000 }) (0x06 ∷ 0x00 ∷ 0x18 ∷ 0x6A ∷ 0x00 ∷ [])
-    ∷ map wait table
+after-puts : (bs : List ℕ) (c : Card) → afterAll (puts bs) c ≡ writeRegister (fed c bs) 12 0x80 .card
+unfolding after
+after-puts [] c = refl
+after-puts (b ∷ bs) c = after-puts bs (writeRegister c 13 b .card)
 
-abbrev All : List Example → Type 0
-All [] = Unit {0}
-All (e ∷ es) = Holds e × All es
+-- the card when a packet was put in and taken
+abbrev given-packet : Packet → Card → Card
+given-packet p c = withDone (withSettings (withQueue c emptyQueue) (applied p (c .settings))) true
 
-waits : (ls : List Line) → Each (λ (l : Line). (c : Card) → PageCard (l .ms) c → Says l c) ls → All (map wait ls)
-waits [] h = tt
-waits (l ∷ ls) h = (h .0, waits ls (h .1))
+takes : (p : Packet) (bs : List ℕ) (c : Card) → bytesOf p ≡ bs → lawful c ≡ true → c .queue ≡ emptyQueue → fits p ≡ true → means p ≡ true → afterAll (puts bs) c ≡ given-packet p c
+takes p bs c e l z f m = after-puts bs c ∙ ap (λ (a : List ℕ). writeRegister (fed c a) 12 0x80 .card) (sym e) ∙ ap (λ (a : Answer). a .card) (fed-packet p c l z f m)
 
-pub page-holds : All page
-unfolding wordsOf timeDigits readWords readDigits digitsRefusal decimal field inRange hourOf minuteOf secondOf fractionOf tickAt digits num below packed unpacked given readPacket packetRefusal frameLines bodyLines has placeOf bodyOf kindsOf ofKinds meaning means modeMeans offsetOf values formatOf modulationOf savedForm settingsBits
-page-holds = ((refl, refl), (refl, (refl, (refl, (refl, (refl, (refl, (refl, (refl, waits table examples)))))))))
+abbrev formatBytes : List ℕ
+formatBytes = 0x01 ∷ 0x48 ∷ 0x42 ∷ 0x44 ∷ 0x17 ∷ []
+
+abbrev offsetBytes : List ℕ
+offsetBytes = 0x01 ∷ 0x47 ∷ 0x2B ∷ 0x30 ∷ 0x30 ∷ 0x32 ∷ 0x35 ∷ 0x30 ∷ 0x30 ∷ 0x30 ∷ 0x17 ∷ []
+
+format-set : afterAll (puts formatBytes) freshCard ≡ given-packet (Packet.H Format.B Modulation.D) freshCard
+unfolding framed dataOf
+format-set = takes (Packet.H Format.B Modulation.D) formatBytes freshCard refl fresh-lawful fresh-queue refl refl
+
+page-set : afterAll pageCalls freshCard .settings ≡ pageSettings
+unfolding freshCard framed dataOf signOf ascii digits
+page-set =
+    let c : Card = given-packet (Packet.H Format.B Modulation.D) freshCard in
+    let l : lawful c ≡ true = sym (ap lawful format-set) ∙ keeps-all (puts formatBytes) freshCard fresh-lawful in
+    ap (λ (d : Card). d .settings) (after-append (puts formatBytes) (puts offsetBytes) freshCard ∙ ap (afterAll (puts offsetBytes)) format-set
+    ∙ takes (Packet.G (pos 25000)) offsetBytes c refl l refl refl refl)
+
+page-form : savedForm pageSettings ≡ 0x06 ∷ 0x00 ∷ 0x18 ∷ 0x6A ∷ 0x00 ∷ []
+unfolding savedForm settingsBits digits num packed
+page-form = refl
+
+page-saved : Holds (Example.saved pageSettings pageCalls (0x06 ∷ 0x00 ∷ 0x18 ∷ 0x6A ∷ 0x00 ∷ []))
+page-saved = (
+  page-set,
+  λ c l e row h. (saves c (length row) l h, row-is c row (saves c (length row) l h) ∙ ap (λ (bs : List ℕ). bs ++ drop 5 row) (ap savedForm e ∙ page-form)),
+)
+
+-- ---- all of them
+
+all-waits : (ls : List Wait) → Each (λ (l : Wait). Holds (Example.wait l)) ls → Each Holds (map Example.wait ls)
+all-waits [] h = tt
+all-waits (l ∷ ls) h = (h .0, all-waits ls (h .1))
+
+pub page-holds : Each Holds page
+unfolding wordsOf writable wordsOrZero writeWords timeDigits readWords readDigits digitsRefusal decimal field inRange hourOf minuteOf secondOf fractionOf tickAt digits num below packed unpacked readPacket packetRefusal frameLines bodyLines has placeOf bodyOf kindsOf ofKinds meaning offsetOf values formatOf modulationOf
+page-holds = ((refl, refl, refl), (refl, (refl, (refl, (refl, (refl, (refl, (refl, (page-saved, all-waits waits starred)))))))))

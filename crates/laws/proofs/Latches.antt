@@ -3,14 +3,20 @@
 use Prim.Native.Nat.{ℕ}
 use mathlib.Core.Path.{_≡_, refl, sym, ap, subst, _∙_}
 use mathlib.Core.Bool.{Bool, true, false}
-use mathlib.Core.List.{List}
+use mathlib.Core.List.{List, [], _∷_}
 use mathlib.Core.Logic.{_⊎_, inl, inr}
 use lib.Dec.{eqb}
 use borrow.Author.Tests.{eqb-true}
 use Rattle.wire.specs.Digits.{pick}
-use Rattle.wire.specs.Numbers.{given}
 use Rattle.wire.specs.Words.{zeroWords}
+use Rattle.wire.specs.Packets.{packetIn}
+use Rattle.wire.specs.declared.packets.Packet.{Packet}
+use Rattle.wire.specs.declared.packets.Packet.the-variants as Packet
+use Rattle.parts.specs.declared.queue.Queue.{Queue}
+use Rattle.parts.specs.Pending.{bit}
+use Rattle.parts.specs.Queues.{queued}
 use Rattle.card.specs.declared.card.Card.{Card}
+use Rattle.card.specs.Packets.{ackRefusal}
 use Rattle.card.specs.declared.card.Answer.{Answer}
 use Rattle.card.specs.declared.registers.Value.{Value}
 use Rattle.card.specs.Cards.{answer, granted, withTimeLatch}
@@ -19,29 +25,20 @@ use Rattle.card.specs.Registers
 use Rattle.card.specs.Registers.{captured, value, wordsNow, readRefusal, readRegister, shown, writeRefusal, writeRegister, written, captures}
 use Rattle.card.specs.Reset
 use Rattle.card.specs.Reset.{resetCard}
-use Rattle.laws.specs.Calls.{Call, after, number, Field, among, Same, readTouches, writeTouches, touches}
+use Rattle.laws.specs.Calls.{Call, after, number, Field, among, Same, packetTouches, ackTouches, readTouches, writeTouches, touches, LatchesTime, LatchesEvent}
 use Rattle.laws.proofs.Outcomes.{by}
 use Rattle.laws.proofs.Refused.{accepted-lawful}
 use Rattle.laws.proofs.Frame.{frame}
 
 -- WHICH CALLS TOUCH THEM
 
-pub data LatchesTime : Call → Type 0 where
-  reads : LatchesTime (Call.read 0)
-  writes : (v : ℕ) → LatchesTime (Call.write 0 v)
-  resets : LatchesTime Call.reset
-
-pub data LatchesEvent : Call → Type 0 where
-  edges : (falling : Bool) → LatchesEvent (Call.edge falling)
-  resets : LatchesEvent Call.reset
-
 -- a call that may not touch a latch leaves it
 module _ (k : Call) (c : Card) where
-  time-same : among (touches k) Field.timeLatch ≡ false → after k c .«time_latch» ≡ c .«time_latch»
+  time-same : among (touches k c) Field.timeLatch ≡ false → after k c .«time_latch» ≡ c .«time_latch»
   unfolding Same
   time-same e = ap (λ (d : Card). d .«time_latch») (frame k c) ∙ simp e
 
-  event-same : among (touches k) Field.eventLatch ≡ false → after k c .event .latch ≡ c .event .latch
+  event-same : among (touches k c) Field.eventLatch ≡ false → after k c .event .latch ≡ c .event .latch
   unfolding Same
   event-same e = ap (λ (d : Card). d .event .latch) (frame k c) ∙ simp e
 
@@ -56,24 +53,53 @@ read-no-event reg = by (λ (fs : List Field). among fs Field.eventLatch ≡ fals
 abbrev Without : Field → List Field → Type 0
 Without f fs = among fs f ≡ false
 
-write-touches : (reg : ℕ) → eqb reg 0 ≡ false → Without Field.timeLatch (writeTouches reg)
+-- no packet sets a latch, and ACK touches none
+packet-no-latch : (p : Packet) → Without Field.timeLatch (packetTouches p) × Without Field.eventLatch (packetTouches p)
+unfolding among
+packet-no-latch (Packet.A mode) = (refl, refl)
+packet-no-latch (Packet.G offset) = (refl, refl)
+packet-no-latch (Packet.H f m) = (refl, refl)
+packet-no-latch (Packet.I s) = (refl, refl)
+packet-no-latch (Packet.K g) = (refl, refl)
+
+without-none : (f : Field) → Without f []
+unfolding among
+without-none f = refl
+
+module _ (f : Field) (d : Without f (Field.done ∷ [])) (q : Without f (Field.done ∷ Field.queue ∷ [])) (h : (p : Packet) → Without f (Field.done ∷ Field.queue ∷ packetTouches p)) where
+  ack-without : (v : ℕ) (w : Queue) → Without f (ackTouches v w)
+  unfolding ackTouches
+  ack-without v w =
+      by (Without f) (bit 128 v)
+      (λ e. by (λ (fs : List Field). Without f (Field.done ∷ Field.queue ∷ fs)) (eqb (ackRefusal w) 0) (λ e. h (packetIn (queued w))) (λ e. q))
+      (λ e. by (Without f) (bit 1 v) (λ e. d) (λ e. without-none f))
+
+ack-no-time : (v : ℕ) (w : Queue) → Without Field.timeLatch (ackTouches v w)
+unfolding among
+ack-no-time = ack-without Field.timeLatch refl refl (λ p. packet-no-latch p .0)
+
+ack-no-event : (v : ℕ) (w : Queue) → Without Field.eventLatch (ackTouches v w)
+unfolding among
+ack-no-event = ack-without Field.eventLatch refl refl (λ p. packet-no-latch p .1)
+
+write-touches : (reg v : ℕ) (w : Queue) → eqb reg 0 ≡ false → Without Field.timeLatch (writeTouches reg v w)
 unfolding writeTouches among
-write-touches reg z =
+write-touches reg v w z =
     simp z
     (by (Without Field.timeLatch) (eqb reg 11) (λ e. refl)
-    (λ e. by (Without Field.timeLatch) (eqb reg 12) (λ e. refl)
+    (λ e. by (Without Field.timeLatch) (eqb reg 12) (λ e. ack-no-time v w)
     (λ e. by (Without Field.timeLatch) (eqb reg 13) (λ e. refl)
     (λ e. by (Without Field.timeLatch) (eqb reg 14) (λ e. refl)
     (λ e. by (Without Field.timeLatch) (eqb reg 15) (λ e. refl)
     (λ e. by (Without Field.timeLatch) (eqb reg 16) (λ e. refl)
     (λ e. by (Without Field.timeLatch) (eqb reg 17) (λ e. refl) (λ e. refl))))))))
 
-write-no-event : (reg : ℕ) → Without Field.eventLatch (writeTouches reg)
+write-no-event : (reg v : ℕ) (w : Queue) → Without Field.eventLatch (writeTouches reg v w)
 unfolding writeTouches among
-write-no-event reg =
+write-no-event reg v w =
     by (Without Field.eventLatch) (eqb reg 0) (λ e. refl)
     (λ e. by (Without Field.eventLatch) (eqb reg 11) (λ e. refl)
-    (λ e. by (Without Field.eventLatch) (eqb reg 12) (λ e. refl)
+    (λ e. by (Without Field.eventLatch) (eqb reg 12) (λ e. ack-no-event v w)
     (λ e. by (Without Field.eventLatch) (eqb reg 13) (λ e. refl)
     (λ e. by (Without Field.eventLatch) (eqb reg 14) (λ e. refl)
     (λ e. by (Without Field.eventLatch) (eqb reg 15) (λ e. refl)
@@ -92,7 +118,7 @@ time-latching (Call.write reg v) c = go (eqb reg 0) refl
   where
     go : (t : Bool) → eqb reg 0 ≡ t → (after (Call.write reg v) c .«time_latch» ≡ c .«time_latch») ⊎ LatchesTime (Call.write reg v)
     go true e = inr (subst (λ (r : ℕ). LatchesTime (Call.write r v)) (sym (eqb-true reg 0 e)) (LatchesTime.writes v))
-    go false e = inl (time-same (Call.write reg v) c (write-touches reg e))
+    go false e = inl (time-same (Call.write reg v) c (write-touches reg v (c .queue) e))
 time-latching (Call.edge falling) c = inl (time-same (Call.edge falling) c refl)
 time-latching Call.line c = inl (time-same Call.line c refl)
 time-latching (Call.setStrobe s) c = inl (time-same (Call.setStrobe s) c refl)
@@ -106,7 +132,7 @@ pub event-latching : (k : Call) (c : Card) → (after k c .event .latch ≡ c .e
 unfolding touches among
 event-latching (Call.setTime year day hour minute second) c = inl (event-same (Call.setTime year day hour minute second) c refl)
 event-latching (Call.read reg) c = inl (event-same (Call.read reg) c (read-no-event reg))
-event-latching (Call.write reg v) c = inl (event-same (Call.write reg v) c (write-no-event reg))
+event-latching (Call.write reg v) c = inl (event-same (Call.write reg v) c (write-no-event reg v (c .queue)))
 event-latching (Call.edge falling) c = inr (LatchesEvent.edges falling)
 event-latching Call.line c = inl (event-same Call.line c refl)
 event-latching (Call.setStrobe s) c = inl (event-same (Call.setStrobe s) c refl)
@@ -121,20 +147,20 @@ event-latching (Call.load bytes) c = inl (event-same (Call.load bytes) c refl)
 -- what they answer of a lawful card
 module _ (c : Card) (l : lawful c ≡ true) where
   read-answers : readRegister c 0 ≡ value (withTimeLatch c (wordsNow c)) 0 (shown c 0)
-  unfolding readRegister readRefusal given
+  unfolding readRegister readRefusal
   read-answers = simp l
 
   write-answers : (v : ℕ) → writeRegister c 0 v ≡ answer (withTimeLatch c (wordsNow c)) 0
-  unfolding writeRegister writeRefusal given written
+  unfolding writeRegister writeRefusal written
   write-answers v = simp l
 
   edge-answers : (falling t : Bool) → captures (c .event .control) falling ≡ t
       → Registers.edge c falling ≡ answer (pick t (captured c) c) 0
-  unfolding Registers.edge granted given
+  unfolding Registers.edge granted
   edge-answers falling t e = simp (l, e)
 
   reset-answers : Reset.reset c ≡ answer (resetCard (c .clock .time) (c .settings)) 0
-  unfolding Reset.reset granted given
+  unfolding Reset.reset granted
   reset-answers = simp l
 
 -- an accepted reading or writing of register 0: the words of the card's time, all of one instant

@@ -10,9 +10,9 @@ use native.Mathlib.Omega.{arith}
 use lib.Arith.{lt-of-le-ne}
 use lib.Dec.{eqb, leb, ltb}
 use lib.ListN.{length}
-use borrow.Author.Tests.{eqb-true, eqb-false, ne-eqb, eq-eqb, ltb-false, le-leb}
+use borrow.Author.Tests.{eqb-true, eqb-false, ne-eqb, ltb-false, le-leb}
 use Rattle.wire.specs.Digits.{pick, unpacked}
-use Rattle.wire.specs.Numbers.{_if_, given, absent}
+use Rattle.wire.specs.Numbers.{_if_, given}
 use Rattle.wire.specs.Packets.{packetIn}
 use Rattle.wire.proofs.numbers.Laws.{given-absent}
 use Rattle.wire.proofs.digits.Laws.{lt-or-le}
@@ -50,37 +50,37 @@ use Rattle.laws.specs.Calls.{Call, after, number}
 use Rattle.laws.specs.Refusals.{Excepted}
 
 -- what an accepted call does to a lawful card
-pub data Done (c : Card) : Call → Card → Type 0 where
+pub data Effect (c : Card) : Call → Card → Type 0 where
   sets-time : (year day hour minute second : ℕ) → dateFits year day hour minute second ≡ true
-      → Done c (Call.setTime year day hour minute second) (withClock c (timeSet (c .clock) year day hour minute second))
-  reads-time : Done c (Call.read 0) (withTimeLatch c (wordsNow c))
-  reads-other : (reg : ℕ) → eqb reg 0 ≡ false → Done c (Call.read reg) c
-  requests-time : (v : ℕ) → Done c (Call.write 0 v) (withTimeLatch c (wordsNow c))
-  writes-control : (v : ℕ) → Done c (Call.write 11 v) (withEvent c (withControl (c .event) (v % 4)))
-  clears-done : (v : ℕ) → bit 128 v ≡ false → Done c (Call.write 12 v) (doneCleared v c)
+      → Effect c (Call.setTime year day hour minute second) (withClock c (timeSet (c .clock) year day hour minute second))
+  reads-time : Effect c (Call.read 0) (withTimeLatch c (wordsNow c))
+  reads-other : (reg : ℕ) → eqb reg 0 ≡ false → Effect c (Call.read reg) c
+  requests-time : (v : ℕ) → Effect c (Call.write 0 v) (withTimeLatch c (wordsNow c))
+  writes-control : (v : ℕ) → Effect c (Call.write 11 v) (withEvent c (withControl (c .event) (v % 4)))
+  clears-done : (v : ℕ) → bit 128 v ≡ false → Effect c (Call.write 12 v) (doneCleared v c)
   takes-packet : (v : ℕ) → bit 128 v ≡ true → ackRefusal (c .queue) ≡ 0
-      → Done c (Call.write 12 v) (withDone (withSettings (withQueue c emptyQueue) (applied (packetIn (queued (c .queue))) (c .settings))) true)
-  joins-queue : (v : ℕ) → c .queue .fill < 64 → Done c (Call.write 13 v) (withQueue c (enqueued (c .queue) (v % 256)))
-  writes-mask : (v : ℕ) → Done c (Call.write 14 v) (withInterrupts c (withMask (c .interrupts) (v % 32)))
-  clears-pending : (v : ℕ) → Done c (Call.write 15 v) (withInterrupts c (withPending (c .interrupts) (cleared v (c .interrupts .pending))))
-  writes-level : (v : ℕ) → Done c (Call.write 16 v) (withInterrupts c (withLevel (c .interrupts) (v % 8)))
-  writes-vector : (v : ℕ) → Done c (Call.write 17 v) (withInterrupts c (withVector (c .interrupts) (v % 256)))
-  captures-edge : (falling : Bool) → captures (c .event .control) falling ≡ true → Done c (Call.edge falling) (captured c)
-  passes-edge : (falling : Bool) → captures (c .event .control) falling ≡ false → Done c (Call.edge falling) c
-  tells-line : Done c Call.line c
-  sets-strobe : (s : StrobeAt) → strobeFits s ≡ true → Done c (Call.setStrobe s) (withClock c (withStrobe (c .clock) (strobeKept s)))
-  sets-periodic : (d : Dividers) → dividersFit d ≡ true → Done c (Call.setPeriodic d) (withClock c (withPeriodic (c .clock) (periodicKept d)))
+      → Effect c (Call.write 12 v) (withDone (withSettings (withQueue c emptyQueue) (applied (packetIn (queued (c .queue))) (c .settings))) true)
+  joins-queue : (v : ℕ) → c .queue .fill < 64 → Effect c (Call.write 13 v) (withQueue c (enqueued (c .queue) (v % 256)))
+  writes-mask : (v : ℕ) → Effect c (Call.write 14 v) (withInterrupts c (withMask (c .interrupts) (v % 32)))
+  clears-pending : (v : ℕ) → Effect c (Call.write 15 v) (withInterrupts c (withPending (c .interrupts) (cleared v (c .interrupts .pending))))
+  writes-level : (v : ℕ) → Effect c (Call.write 16 v) (withInterrupts c (withLevel (c .interrupts) (v % 8)))
+  writes-vector : (v : ℕ) → Effect c (Call.write 17 v) (withInterrupts c (withVector (c .interrupts) (v % 256)))
+  captures-edge : (falling : Bool) → captures (c .event .control) falling ≡ true → Effect c (Call.edge falling) (captured c)
+  passes-edge : (falling : Bool) → captures (c .event .control) falling ≡ false → Effect c (Call.edge falling) c
+  tells-line : Effect c Call.line c
+  sets-strobe : (s : StrobeAt) → strobeFits s ≡ true → Effect c (Call.setStrobe s) (withClock c (withStrobe (c .clock) (strobeKept s)))
+  sets-periodic : (d : Dividers) → dividersFit d ≡ true → Effect c (Call.setPeriodic d) (withClock c (withPeriodic (c .clock) (periodicKept d)))
   waits : (n : ℕ) (row : List ℕ) → waitRefusal c n (length row) ≡ 0
-      → Done c (Call.wait n row) (cardAfter c (passed (c .clock) n (length row)) (fell (listed (c .clock) n (length row))))
-  resets : Done c Call.reset (resetCard (c .clock .time) (c .settings))
-  saves : (row : List ℕ) → Done c (Call.save row) c
-  loads : (bytes : List ℕ) → eqb (length bytes) 5 && meaningful (unpacked 2 8 bytes) ≡ true → Done c (Call.load bytes) (withSettings c (settingsIn (unpacked 2 8 bytes)))
+      → Effect c (Call.wait n row) (cardAfter c (passed (c .clock) n (length row)) (fell (listed (c .clock) n (length row))))
+  resets : Effect c Call.reset (resetCard (c .clock .time) (c .settings))
+  saves : (row : List ℕ) → Effect c (Call.save row) c
+  loads : (bytes : List ℕ) → eqb (length bytes) 5 && meaningful (unpacked 2 8 bytes) ≡ true → Effect c (Call.load bytes) (withSettings c (settingsIn (unpacked 2 8 bytes)))
 
 -- how a call ends: the card afterwards and the number
 pub data Outcome (k : Call) (c : Card) : Card → ℕ → Type 0 where
   unlawful : lawful c ≡ false → Outcome k c c 18
   refused : {n : ℕ} → lawful c ≡ true → eqb n 0 ≡ false → eqb n 18 ≡ false → Outcome k c c n
-  accepted : {d : Card} → lawful c ≡ true → Done c k d → Outcome k c d 0
+  accepted : {d : Card} → lawful c ≡ true → Effect c k d → Outcome k c d 0
   excepted : {d : Card} {n : ℕ} → lawful c ≡ true → Excepted k c d n → eqb n 0 ≡ false → eqb n 18 ≡ false → Outcome k c d n
 
 -- a choice has what both its sides have
@@ -97,15 +97,15 @@ abbrev Ends : Call → Card → Answer → Type 0
 Ends k c a = Outcome k c (a .card) (a .number)
 
 module _ (k : Call) (c d : Card) where
-  one-line : (n : ℕ) (f : Bool) → eqb n 0 ≡ false → eqb n 18 ≡ false → (f ≡ true → Done c k d) → (known : Bool) → lawful c ≡ known
+  one-line : (n : ℕ) (f : Bool) → eqb n 0 ≡ false → eqb n 18 ≡ false → (f ≡ true → Effect c k d) → (known : Bool) → lawful c ≡ known
       → Ends k c (granted (18 if not known ∷ n if not f ∷ []) c d)
-  unfolding granted given
+  unfolding granted
   one-line n f z e h false l = unlawful l
   one-line n true z e h true l = accepted l (h refl)
   one-line n false z e h true l = by (λ (x : Card). Outcome k c x n) (eqb n 0) (λ q. absurd (clash (eqb n 0) q z)) (λ q. refused l z e)
 
-  no-line : (lawful c ≡ true → Done c k d) → (known : Bool) → lawful c ≡ known → Ends k c (granted (18 if not known ∷ []) c d)
-  unfolding granted given
+  no-line : (lawful c ≡ true → Effect c k d) → (known : Bool) → lawful c ≡ known → Ends k c (granted (18 if not known ∷ []) c d)
+  unfolding granted
   no-line h false l = unlawful l
   no-line h true l = accepted l (h l)
 
@@ -122,11 +122,11 @@ module _ (c : Card) (reg : ℕ) where
   shows : lawful c ≡ true → Outcome (Call.read reg) c (pick (eqb reg 0) (withTimeLatch c (wordsNow c)) c) 0
   shows l =
       by (λ (d : Card). Outcome (Call.read reg) c d 0) (eqb reg 0)
-      (λ e. accepted l (subst (λ (r : ℕ). Done c (Call.read r) (withTimeLatch c (wordsNow c))) (sym (eqb-true reg 0 e)) reads-time))
+      (λ e. accepted l (subst (λ (r : ℕ). Effect c (Call.read r) (withTimeLatch c (wordsNow c))) (sym (eqb-true reg 0 e)) reads-time))
       (λ e. accepted l (reads-other reg e))
 
   read-by : (known : Bool) → lawful c ≡ known → Reads (reading (readRefusal known reg))
-  unfolding readRefusal given
+  unfolding readRefusal
   read-by false l = unlawful l
   read-by true l =
       by (λ (n : ℕ). Reads (reading n)) (ltb lastRegister reg) (λ e. refused l refl refl)
@@ -202,7 +202,7 @@ module _ (c : Card) (reg v : ℕ) where
   writing n = pick (eqb n 0) (written c reg v) (answer c n)
 
   write-by : (known : Bool) → lawful c ≡ known → Writes (writing (writeRefusal known reg (c .queue .fill)))
-  unfolding writeRefusal given
+  unfolding writeRefusal
   write-by false l = unlawful l
   write-by true l =
       by (λ (n : ℕ). Writes (writing n)) (ltb lastRegister reg) (λ e. refused l refl refl)
@@ -213,24 +213,22 @@ module _ (c : Card) (reg v : ℕ) where
 -- ---- saving, the line, waiting
 
 save-by : (c : Card) (row : List ℕ) (known : Bool) → lawful c ≡ known → Outcome (Call.save row) c c (given (18 if not known ∷ 14 if ltb (length row) 5 ∷ []))
-unfolding given
 save-by c row false l = unlawful l
 save-by c row true l = by (λ (n : ℕ). Outcome (Call.save row) c c n) (ltb (length row) 5) (λ e. refused l refl refl) (λ e. accepted l (saves row))
 
 line-by : (c : Card) (known up : Bool) → lawful c ≡ known
     → Outcome Call.line c c (pick (known && up) (interruptLine 0 true (c .interrupts .level) (c .interrupts .vector)) (interruptLine (given (18 if not known ∷ [])) false 0 0) .number)
-unfolding given
 line-by c false up l = unlawful l
 line-by c true true l = accepted l tells-line
 line-by c true false l = accepted l tells-line
 
 wait-18 : (c : Card) (n room : ℕ) → lawful c ≡ true → eqb (waitRefusal c n room) 18 ≡ false
-unfolding waitRefusal given absent
+unfolding waitRefusal
 wait-18 c n room l = rw l (ne-eqb (given (waitLines (c .clock) n room)) 18 (given-absent 18 (waitLines (c .clock) n room) refl refl))
 
 wait-by : (c : Card) (n : ℕ) (row : List ℕ) (known : Bool) → lawful c ≡ known → (t : Bool) → eqb (waitRefusal c n (length row)) 0 ≡ t
     → Outcome (Call.wait n row) c (pick t (cardAfter c (passed (c .clock) n (length row)) (fell (listed (c .clock) n (length row)))) c) (pick t 0 (waitRefusal c n (length row)))
-unfolding waitRefusal given
+unfolding waitRefusal
 wait-by c n row false l true e = absurd (clash true refl (sym e ∙ simp l))
 wait-by c n row false l false e = rw l (unlawful l)
 wait-by c n row true l true e = accepted l (waits n row (eqb-true (waitRefusal c n (length row)) 0 e))
@@ -246,7 +244,7 @@ outcome (Call.read reg) c = read-by c reg (lawful c) refl
 outcome (Call.write reg v) c = write-by c reg v (lawful c) refl
 outcome (Call.edge falling) c =
     no-line _ c _
-    (λ l. by (Done c (Call.edge falling)) (captures (c .event .control) falling) (captures-edge falling) (passes-edge falling))
+    (λ l. by (Effect c (Call.edge falling)) (captures (c .event .control) falling) (captures-edge falling) (passes-edge falling))
     (lawful c) refl
 outcome Call.line c = line-by c (lawful c) (lineUp (c .interrupts)) refl
 outcome (Call.setStrobe s) c = one-line _ c _ 13 (strobeFits s) refl refl (sets-strobe s) (lawful c) refl

@@ -1,113 +1,143 @@
--- Pending bits raised for the sources of a list: for one list after another, moved on or not, and never beyond bit 4. Assumes nothing.
-use Prim.Native.Nat.{ℕ, _+_, _-_, _*_, _/_, _%_, _<_}
+-- Pending bits and the interrupt line, of the calls: an occurrence raises its own bit and no other, INTSTAT clears exactly the bits of the value, bit 4 is never
+-- raised, and the line is up exactly if LEVEL is not 0 and some bit is set in both. Assumes nothing.
+use Prim.Native.Nat.{ℕ, _-_, _^_, _<_}
 use mathlib.Core.Path.{_≡_, refl, sym, _∙_, ap}
-use mathlib.Core.Bool.{Bool, true, false, _||_}
-use mathlib.Core.List.{List, [], _∷_, _++_, map}
-use mathlib.Core.Logic.{_⊎_, inl, inr, ⊎-elim}
-use native.Mathlib.Nat.{div-div-eq-div-mul}
+use mathlib.Core.Bool.{Bool, true, false, _&&_, _||_, not, or-false}
+use mathlib.Core.List.{List}
+use mathlib.Core.Logic.{_↔_}
 use native.Mathlib.Omega.{arith}
-use borrow.Author.Tests.{eq-eqb, ne-eqb}
-use Rattle.wire.proofs.digits.Laws.{lt-or-le}
+use lib.Dec.{eqb, lit<}
+use lib.ListN.{length}
+use borrow.Author.Tests.{eqb-true}
+use Rattle.wire.specs.Digits.{pick}
+use Rattle.wire.proofs.digits.Laws.{and-left, and-both}
 use Rattle.clock.specs.declared.waiting.Fell.{Fell}
-use Rattle.clock.specs.Waiting.{lists, fell}
-use Rattle.clock.proofs.waiting.Heard.{lists-append}
-use Rattle.parts.specs.Interrupts.{sourcesRaised}
-use Rattle.parts.specs.Pending.{raised}
-use Rattle.card.specs.Waiting.{pendingAfter}
+use Rattle.clock.specs.Waiting.{listed, passed, fell}
+use Rattle.parts.specs.Interrupts.{sourceOf, lineUp}
+use Rattle.parts.specs.Pending.{bit, Shared}
+use Rattle.parts.proofs.interrupts.Laws.{ranges}
+use Rattle.parts.proofs.interrupts.Bits.{event-raises, sources-raise, clears, line-up}
+use Rattle.card.specs.declared.card.Card.{Card}
+use Rattle.card.specs.declared.waiting.WaitedCard.{WaitedCard}
+use Rattle.card.specs.Lawful.{lawful}
+use Rattle.card.specs.Registers.{captures}
+use Rattle.card.specs.Registers
+use Rattle.card.specs.Waiting.{waitRefusal, waited, wait}
+use Rattle.card.proofs.lawful.Laws.{parts}
+use Rattle.card.proofs.registers.Laws.{edge-takes, intstat-takes}
+use Rattle.card.proofs.waiting.Laws.{wait-is, pending-after}
+use Rattle.laws.specs.Calls.{Call, after, number}
+use Rattle.laws.specs.Refusals.{Excepted}
+use Rattle.laws.proofs.Outcomes.{Effect, Outcome, by, outcome}
+use Rattle.laws.proofs.Refused.{accepted-lawful}
 
--- ---- bits raised twice
+-- the bit of an index, of the pending bits of a card
+abbrev pending : ℕ → Card → Bool
+pending i c = bit (2 ^ i) (c .interrupts .pending)
 
-module _ (w : ℕ) where
-  clear-or-set : (x : ℕ) → (x / w % 2 ≡ 0) ⊎ (x / w % 2 ≡ 0 → ⊥)
-  clear-or-set x = ⊎-elim (λ l. inr (λ e. omega arith)) (λ l. inl (omega arith)) (lt-or-le 0 (x / w % 2))
+pending-small : (c : Card) → lawful c ≡ true → c .interrupts .pending < 32
+pending-small c l = ranges (c .interrupts) (parts c l .interrupts) .pending
 
-  raised-clear : (x : ℕ) → x / w % 2 ≡ 0 → raised w true x ≡ x + w
-  unfolding raised
-  raised-clear x e = simp (eq-eqb (x / w % 2) 0 e)
+-- a wait that gives 0 is not refused
+wait-went : (c : Card) (n : ℕ) (row : List ℕ) → number (Call.wait n row) c ≡ 0 → waitRefusal c n (length row) ≡ 0
+unfolding number wait
+wait-went c n row = go _ (waitRefusal c n (length row)) (eqb (waitRefusal c n (length row)) 0) refl
+  where
+    go : (x : WaitedCard) (m : ℕ) (t : Bool) → eqb m 0 ≡ t → pick t x (record { card = c; waited = waited m 0 0 }) .waited .number ≡ 0 → m ≡ 0
+    go x m true e h = eqb-true m 0 e
+    go x m false e h = h
 
-  raised-set : (x : ℕ) → (x / w % 2 ≡ 0 → ⊥) → raised w true x ≡ x
-  unfolding raised
-  raised-set x h = simp (ne-eqb (x / w % 2) 0 h)
+-- ---- the three calls that change them
 
--- a bit raised is set, so that it is raised once
-module _ (w : ℕ) (sets : (x : ℕ) → x / w % 2 ≡ 0 → (x + w) / w % 2 ≡ 1) where
-  again : (x : ℕ) → raised w true (raised w true x) ≡ raised w true x
-  again x =
-      ⊎-elim
-      (λ e. rw (raised-clear w x e) (raised-set w (x + w) (λ z. omega (arith, sets x e))))
-      (λ h. ap (raised w true) (raised-set w x h))
-      (clear-or-set w x)
+-- a captured edge raises bit 0
+pub edge-raises : (c : Card) (falling : Bool) (i : ℕ) → i < 5 → number (Call.edge falling) c ≡ 0 → captures (c .event .control) falling ≡ true
+    → pending i (after (Call.edge falling) c) ≡ (pending i c || eqb i 0)
+unfolding after
+edge-raises c falling i l e t =
+    let k = accepted-lawful (Call.edge falling) c e in
+    ap (λ (x : ℕ). bit (2 ^ i) x) (edge-takes c falling k t) ∙ event-raises i (c .interrupts .pending) l (pending-small c k)
 
-  twice : (s t : Bool) (x : ℕ) → raised w s (raised w t x) ≡ raised w (t || s) x
-  unfolding raised
-  twice false true x = refl
-  twice false false x = refl
-  twice true true x = again x
-  twice true false x = refl
+-- a wait raises the bits of the sources that it lists: 1 periodic, 2 strobe, 3 second
+pub wait-raises : (c : Card) (n : ℕ) (row : List ℕ) (i : ℕ) → i < 5 → number (Call.wait n row) c ≡ 0
+    → pending i (after (Call.wait n row) c)
+    ≡ (pending i c || sourceOf i (fell (listed (c .clock) n (length row)) .periodic) (fell (listed (c .clock) n (length row)) .strobe) (fell (listed (c .clock) n (length row)) .second))
+unfolding after
+wait-raises c n row i l e =
+    let k = accepted-lawful (Call.wait n row) c e in
+    let f : Fell = fell (listed (c .clock) n (length row)) in
+    ap (λ (x : ℕ). bit (2 ^ i) x) (ap (λ (w : WaitedCard). w .card .interrupts .pending) (wait-is c n (length row) (wait-went c n row e)) ∙ pending-after c (passed (c .clock) n (length row)) f)
+    ∙ sources-raise (f .periodic) (f .strobe) (f .second) (c .interrupts .pending) (pending-small c k) i l
 
--- two bits, either of which leaves the other as it was
-module _ (w v : ℕ) (keeps-v : (x : ℕ) → x / w % 2 ≡ 0 → (x + w) / v % 2 ≡ x / v % 2) (keeps-w : (x : ℕ) → x / v % 2 ≡ 0 → (x + v) / w % 2 ≡ x / w % 2) where
-  both-ways : (x : ℕ) → raised w true (raised v true x) ≡ raised v true (raised w true x)
-  both-ways x = by (clear-or-set w x) (clear-or-set v x)
-    where
-      by : (x / w % 2 ≡ 0) ⊎ (x / w % 2 ≡ 0 → ⊥) → (x / v % 2 ≡ 0) ⊎ (x / v % 2 ≡ 0 → ⊥) → raised w true (raised v true x) ≡ raised v true (raised w true x)
-      by (inl a) (inl b) =
-          rw (raised-clear w x a, raised-clear v x b, raised-clear w (x + v) (keeps-w x b ∙ a), raised-clear v (x + w) (keeps-v x a ∙ b)) (omega arith)
-      by (inl a) (inr b) = rw (raised-set v x b, raised-clear w x a, raised-set v (x + w) (λ z. b (sym (keeps-v x a) ∙ z)))
-      by (inr a) (inl b) = rw (raised-set w x a, raised-clear v x b, raised-set w (x + v) (λ z. a (sym (keeps-w x b) ∙ z)))
-      by (inr a) (inr b) = rw (raised-set w x a, raised-set v x b, raised-set w x a)
+-- each 1 bit written to INTSTAT clears that pending bit, and no other is changed
+pub intstat-clears : (c : Card) (v i : ℕ) → i < 5 → number (Call.write 15 v) c ≡ 0 → pending i (after (Call.write 15 v) c) ≡ (pending i c && not (bit (2 ^ i) v))
+unfolding after
+intstat-clears c v i l e =
+    let k = accepted-lawful (Call.write 15 v) c e in
+    ap (λ (x : ℕ). bit (2 ^ i) x) (intstat-takes c v k) ∙ clears i v (c .interrupts .pending) l (pending-small c k)
 
-  swapped : (s t : Bool) (x : ℕ) → raised w s (raised v t x) ≡ raised v t (raised w s x)
-  unfolding raised
-  swapped false t x = refl
-  swapped true false x = refl
-  swapped true true x = both-ways x
+-- ---- bit 4, for all calls
 
--- to raise a clear bit changes none above it
-above : (w x : ℕ) → (x + w) / w ≡ x / w + 1 → x / w % 2 ≡ 0 → (x + w) / (w * 2) ≡ x / (w * 2)
-above w x f e =
-    let g : (x / w + 1) / 2 ≡ x / w / 2 = omega arith in
-    sym (div-div-eq-div-mul (x + w) w 2) ∙ ap (λ (q : ℕ). q / 2) f ∙ g ∙ div-div-eq-div-mul x w 2
+four : (c : Card) (d : Card) (k : Call) → lawful c ≡ true → Effect c k d → pending 4 d ≡ true → pending 4 c ≡ true
+four c d k l (Effect.sets-time year day hour minute second e) h = h
+four c d k l Effect.reads-time h = h
+four c d k l (Effect.reads-other reg e) h = h
+four c d k l (Effect.requests-time v) h = h
+four c d k l (Effect.writes-control v) h = h
+four c d k l (Effect.clears-done v e) h = by (λ (x : Card). pending 4 x ≡ true → pending 4 c ≡ true) (bit 1 v) (λ f g. g) (λ f g. g) h
+four c d k l (Effect.takes-packet v b e) h = h
+four c d k l (Effect.joins-queue v e) h = h
+four c d k l (Effect.writes-mask v) h = h
+four c d k l (Effect.clears-pending v) h = and-left (pending 4 c) (not (bit 16 v)) (sym (clears 4 v (c .interrupts .pending) (lit< tt) (pending-small c l)) ∙ h)
+four c d k l (Effect.writes-level v) h = h
+four c d k l (Effect.writes-vector v) h = h
+four c d k l (Effect.captures-edge falling e) h = sym (event-raises 4 (c .interrupts .pending) (lit< tt) (pending-small c l) ∙ or-false (pending 4 c)) ∙ h
+four c d k l (Effect.passes-edge falling e) h = h
+four c d k l Effect.tells-line h = h
+four c d k l (Effect.sets-strobe s e) h = h
+four c d k l (Effect.sets-periodic s e) h = h
+four c d k l (Effect.waits n row e) h =
+    let f : Fell = fell (listed (c .clock) n (length row)) in
+    sym (ap (λ (x : ℕ). bit 16 x) (pending-after c (passed (c .clock) n (length row)) f)
+    ∙ sources-raise (f .periodic) (f .strobe) (f .second) (c .interrupts .pending) (pending-small c l) 4 (lit< tt) ∙ or-false (pending 4 c))
+    ∙ h
+four c d k l Effect.resets h = absurd (let z : _≡_ {A = ℕ} 0 1 = cc in omega arith)
+four c d k l (Effect.saves row) h = h
+four c d k l (Effect.loads bytes e) h = h
 
-far-above : (x : ℕ) → x / 2 % 2 ≡ 0 → (x + 2) / 8 % 2 ≡ x / 8 % 2
-far-above x e = ap (λ (q : ℕ). q % 2) (sym (div-div-eq-div-mul (x + 2) 4 2) ∙ ap (λ (q : ℕ). q / 2) (above 2 x (omega arith) e) ∙ div-div-eq-div-mul x 4 2)
+four-excepted : {n : ℕ} (k : Call) (c d : Card) → Excepted k c d n → pending 4 d ≡ true → pending 4 c ≡ true
+four-excepted k c d (Excepted.packet v l b z) h = h
 
-eight-two : (s t : Bool) (x : ℕ) → raised 8 s (raised 2 t x) ≡ raised 2 t (raised 8 s x)
-eight-two = swapped 8 2 (λ x e. omega arith) far-above
+four-by : {n : ℕ} (k : Call) (c d : Card) → Outcome k c d n → pending 4 d ≡ true → pending 4 c ≡ true
+four-by k c d (Outcome.unlawful l) h = h
+four-by k c d (Outcome.refused l e f) h = h
+four-by k c d (Outcome.accepted l o) h = four c d k l o h
+four-by k c d (Outcome.excepted l x e f) h = four-excepted k c d x h
 
-eight-four : (s t : Bool) (x : ℕ) → raised 8 s (raised 4 t x) ≡ raised 4 t (raised 8 s x)
-eight-four = swapped 8 4 (λ x e. omega arith) (λ x e. ap (λ (q : ℕ). q % 2) (above 4 x (omega arith) e))
+-- no call raises bit 4: where it is set, it was set before
+pub never-four : (k : Call) (c : Card) → pending 4 (after k c) ≡ true → pending 4 c ≡ true
+never-four k c = four-by k c (after k c) (outcome k c)
 
-four-two : (s t : Bool) (x : ℕ) → raised 4 s (raised 2 t x) ≡ raised 2 t (raised 4 s x)
-four-two = swapped 4 2 (λ x e. omega arith) (λ x e. ap (λ (q : ℕ). q % 2) (above 2 x (omega arith) e))
+-- ---- the line
 
--- bits raised for one list and then for another are those raised for both
-pub pending-append : (xs ys : List ℕ) (b : ℕ) → pendingAfter (fell ys) (pendingAfter (fell xs) b) ≡ pendingAfter (fell (xs ++ ys)) b
-unfolding sourcesRaised
-pending-append xs ys b =
-    rw (eight-two, eight-four, four-two)
-    (rw (twice 2 (λ x e. omega arith), twice 4 (λ x e. omega arith), twice 8 (λ x e. omega arith)) (rw (lists-append 1 xs ys, lists-append 2 xs ys, lists-append 4 xs ys)))
+told : (c : Card) (t : Bool) → lawful c && lineUp (c .interrupts) ≡ t → Registers.line c .up ≡ t
+unfolding Registers.line
+told c true e = simp e
+told c false e = simp e
 
--- ---- records moved on have the same sources
+-- up exactly if the card is lawful, LEVEL is not 0, and some pending bit is also set in MASK
+pub line-is-up : (c : Card) → Registers.line c .up ≡ true ↔ ((lawful c ≡ true) × (c .interrupts .level ≡ 0 → ⊥) × Shared (c .interrupts .pending) (c .interrupts .mask))
+line-is-up c =
+    let t : Registers.line c .up ≡ (lawful c && lineUp (c .interrupts)) = told c (lawful c && lineUp (c .interrupts)) refl in (
+      λ u. let a = and-both (lawful c) (lineUp (c .interrupts)) (sym t ∙ u) in let w = line-up (c .interrupts) .0 (a .1) in (a .0, w .0, w .1),
+      λ u. t ∙ both (u .0) (line-up (c .interrupts) .1 (u .1, u .2)),
+    )
+  where
+    both : {s t : Bool} → s ≡ true → t ≡ true → (s && t) ≡ true
+    both e f = simp (e, f)
 
-moved-lists : (w p : ℕ) → ((r : ℕ) → (8 * p + r) / w % 2 ≡ r / w % 2) → (rs : List ℕ) → lists w (map (λ (r : ℕ). 8 * p + r) rs) ≡ lists w rs
-unfolding lists
-moved-lists w p h [] = refl
-moved-lists w p h (r ∷ rs) = rw (h r, moved-lists w p h rs)
-
-pub pending-moved : (p : ℕ) (rs : List ℕ) (b : ℕ) → pendingAfter (fell (map (λ (r : ℕ). 8 * p + r) rs)) b ≡ pendingAfter (fell rs) b
-unfolding sourcesRaised
-pending-moved p rs b = rw (moved-lists 1 p (λ r. omega arith) rs, moved-lists 2 p (λ r. omega arith) rs, moved-lists 4 p (λ r. omega arith) rs)
-
--- ---- no bit is raised but those three
-
-raised-below : (w : ℕ) → ((x : ℕ) → x < 32 → x / w % 2 ≡ 0 → x + w < 32) → (t : Bool) (x : ℕ) → x < 32 → raised w t x < 32
-unfolding raised
-raised-below w h false x l = l
-raised-below w h true x l = ⊎-elim (λ e. rw (raised-clear w x e) (h x l e)) (λ e. rw (raised-set w x e) l) (clear-or-set w x)
-
-pub pending-below : (f : Fell) (b : ℕ) → b < 32 → pendingAfter f b < 32
-unfolding sourcesRaised
-pending-below f b l =
-    raised-below 2 (λ x h e. omega arith) (f .periodic) _
-    (raised-below 4 (λ x h e. omega arith) (f .strobe) _ (raised-below 8 (λ x h e. omega arith) (f .second) b l))
+-- and then it gives LEVEL and VECTOR
+pub line-gives : (c : Card) → Registers.line c .up ≡ true → (Registers.line c .level ≡ c .interrupts .level) × (Registers.line c .vector ≡ c .interrupts .vector)
+unfolding Registers.line
+line-gives c u =
+    let e : (lawful c && lineUp (c .interrupts)) ≡ true = sym (told c (lawful c && lineUp (c .interrupts)) refl) ∙ u in
+    (simp e, simp e)

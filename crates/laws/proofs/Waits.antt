@@ -1,65 +1,49 @@
--- The starred waits of the page, of `wait` and its row: lines of a table, each of every lawful card with the page's clock and nothing pending. The records are
--- computed in the clock's `waiting/Examples`. Assumes nothing.
-use Prim.Native.Nat.{ℕ, pred, _+_, _/_, _%_, _<_}
-use mathlib.Core.Path.{_≡_, refl, ap}
+-- The starred waits of the page, of every card such as the page's, and the page's own, which calls set. The records are computed in the clock's
+-- `waiting/Examples`. Assumes nothing.
+use Prim.Native.Nat.{ℕ, pred, _+_, _/_, _%_, _≤_, _<_}
+use mathlib.Core.Path.{_≡_, refl, sym, ap, _∙_}
 use mathlib.Core.Bool.{true, false}
-use mathlib.Core.List.{List, [], _∷_, _++_}
-use lib.Dec.{leb, eqb, lit<}
-use lib.ListN.{length, getD, take, drop}
+use mathlib.Core.List.{List, [], _∷_}
+use lib.Dec.{leb, eqb, lit<, lit≤}
+use lib.ListN.{length, getD, take}
 use Rattle.wire.specs.Digits.{pick}
-use Rattle.wire.specs.Numbers.{given}
 use Rattle.clock.specs.declared.clock.Periodic.the-variants as Periodic
+use Rattle.clock.specs.declared.setting.StrobeAt.the-variants as StrobeAt
+use Rattle.clock.specs.declared.setting.Dividers.the-variants as Dividers
+use Rattle.clock.specs.Clocks.{withStrobe, withPeriodic}
+use Rattle.clock.specs.Setting.{timeSet, strobeKept, periodicKept}
 use Rattle.clock.specs.Time.{instant}
-use Rattle.clock.specs.Waiting.{records, lists, listed, passed, fell, countLater, clockLater}
+use Rattle.clock.specs.Waiting.{records, sourceListed, listed, passed, fell, countLater, clockLater}
 use Rattle.clock.proofs.time.Laws.{within-day}
-use Rattle.clock.proofs.waiting.Examples.{pageClock, at-200, at-400}
-use Rattle.card.specs.declared.card.Card.{Card}
+use Rattle.clock.proofs.waiting.Examples.{pageClock, at-200, at-400, page-date, page-dividers, page-strobe, page-set}
 use Rattle.parts.specs.Interrupts.{sourcesRaised}
 use Rattle.parts.specs.Pending.{raised}
+use Rattle.card.specs.declared.card.Card.{Card}
+use Rattle.card.specs.declared.card.Answer.{Answer}
+use Rattle.card.specs.Cards.{withClock}
 use Rattle.card.specs.Lawful.{lawful}
-use Rattle.card.specs.Waiting.{pendingAfter, cardAfter, waitRefusal, waited, wait, rowWaited}
+use Rattle.card.specs.Reset.{freshCard}
+use Rattle.card.specs.Setting.{setTime, setPeriodic, setStrobe}
+use Rattle.card.specs.Waiting.{pendingAfter, cardAfter, waitRefusal, wait, rowWaited}
+use Rattle.card.proofs.setting.Laws.{sets}
+use Rattle.laws.specs.Calls.{Call, after}
+use Rattle.laws.specs.Examples.{pageCard, PageCard, Wait, Says, Holds, Example, waits, Each}
+use Rattle.laws.proofs.Keeps.{fresh-lawful, fresh-all, keeps-all}
 
--- a line: the strobe's millisecond, the places, and the row, the ticks passed, the count and the pending bits that a wait of 10,000,000 ticks leaves
-pub record Line : Type 0 where
-  pub ms : ℕ
-  pub places : ℕ
-  pub row : List ℕ
-  pub passed : ℕ
-  pub count : ℕ
-  pub pending : ℕ
-
-abbrev pub table : List Line
-table =
-    record { ms = 200; places = 8; row = 16000002 ∷ 32000001 ∷ 64000001 ∷ 80000004 ∷ []; passed = 10000000; count = 2000000; pending = 14 }
-    ∷ record { ms = 200; places = 2; row = 16000002 ∷ 32000001 ∷ []; passed = 4000000; count = 0; pending = 6 }
-    ∷ record { ms = 400; places = 8; row = 32000003 ∷ 64000001 ∷ 80000004 ∷ []; passed = 10000000; count = 2000000; pending = 14 }
-    ∷ []
-
--- the cards that a line speaks of
-pub record PageCard (ms : ℕ) (c : Card) : Type 0 where
-  pub known : lawful c ≡ true
-  pub clock : c .clock ≡ pageClock ms
-  pub pending : c .interrupts .pending ≡ 0
-
--- what a line says of a card
-pub record Says (l : Line) (c : Card) : Type 0 where
-  pub waited : wait c 10000000 (l .places) .waited ≡ waited 0 (l .passed) (length (l .row))
-  pub row : (r : List ℕ) → length r ≡ l .places → rowWaited c 10000000 r ≡ l .row ++ drop (length (l .row)) r
-  pub count : wait c 10000000 (l .places) .card .clock .periodic ≡ Periodic.Every 2000 2000 (l .count)
-  pub pending : wait c 10000000 (l .places) .card .interrupts .pending ≡ l .pending
+-- ---- what a line says
 
 -- what is computed of it, from the records
-record Computed (rs : List ℕ) (l : Line) : Type 0 where
-  pub records : records (pageClock (l .ms)) 10000000 ≡ rs
-  pub places : eqb (l .places) 0 ≡ false
-  pub row : take (l .places) rs ≡ l .row
-  pub passed : pick (leb (length rs) (l .places)) 10000000 (getD rs (pred (l .places)) 0 / 8) ≡ l .passed
-  pub count : (0 + l .passed) % 4000000 ≡ l .count
-  pub pending : pendingAfter (fell (l .row)) 0 ≡ l .pending
+record Computed (rs : List ℕ) (l : Wait) : Type 0 where
+  records : records (pageClock (l .ms)) 10000000 ≡ rs
+  places : eqb (l .places) 0 ≡ false
+  row : take (l .places) rs ≡ l .row
+  passed : pick (leb (length rs) (l .places)) 10000000 (getD rs (pred (l .places)) 0 / 8) ≡ l .passed
+  count : (0 + l .passed) % 4000000 ≡ l .count
+  pending : pendingAfter (fell (l .row)) 0 ≡ l .pending
 
-module _ (rs : List ℕ) (l : Line) (k : Computed rs l) (c : Card) (p : PageCard (l .ms) c) where
+module _ (rs : List ℕ) (l : Wait) (k : Computed rs l) (c : Card) (p : PageCard (l .ms) c) where
   not-refused : waitRefusal c 10000000 (l .places) ≡ 0
-  unfolding waitRefusal given
+  unfolding waitRefusal
   not-refused = rw (p .known, p .clock, within-day (instant 2004 1 0) 10000000 (lit< tt), k .places)
 
   lists-row : listed (c .clock) 10000000 (l .places) ≡ l .row
@@ -80,20 +64,55 @@ module _ (rs : List ℕ) (l : Line) (k : Computed rs l) (c : Card) (p : PageCard
         pending = rw (not-refused, lists-row, p .pending) (k .pending);
       }
 
--- every line of a list has a property
-abbrev pub Each : (Line → Type 0) → List Line → Type 0
-Each P [] = Unit {0}
-Each P (l ∷ ls) = P l × Each P ls
+-- ---- the page's card
 
--- the page's lines hold of every such card
-pub examples : Each (λ (l : Line). (c : Card) → PageCard (l .ms) c → Says l c) table
-unfolding sourcesRaised raised lists
-examples = (
-  says _ _ (record { records = at-200; places = refl; row = refl; passed = refl; count = refl; pending = refl }),
+module _ (ms : ℕ) (h : ms ≤ 999) where
+  abbrev timed : Card
+  timed = withClock freshCard (timeSet (freshCard .clock) 2004 1 0 0 0)
+
+  abbrev divided : Card
+  divided = withClock timed (withPeriodic (timed .clock) (periodicKept (Dividers.By 2000 2000)))
+
+  abbrev set : Card
+  set = withClock divided (withStrobe (divided .clock) (strobeKept (StrobeAt.EachSecond ms)))
+
+  time-set : after (Call.setTime 2004 1 0 0 0) freshCard ≡ timed
+  unfolding after setTime
+  time-set = ap (λ (a : Answer). a .card) (sets freshCard timed _ fresh-lawful page-date)
+
+  timed-lawful : lawful timed ≡ true
+  timed-lawful = sym (ap lawful time-set) ∙ keeps-all (Call.setTime 2004 1 0 0 0 ∷ []) freshCard fresh-lawful
+
+  dividers-set : after (Call.setPeriodic (Dividers.By 2000 2000)) timed ≡ divided
+  unfolding after setPeriodic
+  dividers-set = ap (λ (a : Answer). a .card) (sets timed divided _ timed-lawful page-dividers)
+
+  divided-lawful : lawful divided ≡ true
+  divided-lawful = sym (ap lawful dividers-set) ∙ keeps-all (Call.setPeriodic (Dividers.By 2000 2000) ∷ []) timed timed-lawful
+
+  strobe-set : after (Call.setStrobe (StrobeAt.EachSecond ms)) divided ≡ set
+  unfolding after setStrobe
+  strobe-set = ap (λ (a : Answer). a .card) (sets divided set _ divided-lawful (page-strobe ms h))
+
+  card-set : pageCard ms ≡ set
+  card-set =
+      ap (λ (c : Card). after (Call.setStrobe (StrobeAt.EachSecond ms)) (after (Call.setPeriodic (Dividers.By 2000 2000)) c)) time-set
+      ∙ ap (after (Call.setStrobe (StrobeAt.EachSecond ms))) dividers-set ∙ strobe-set
+
+  page-card : PageCard ms (pageCard ms)
+  unfolding freshCard
+  page-card = record { known = fresh-all (Call.setTime 2004 1 0 0 0 ∷ Call.setPeriodic (Dividers.By 2000 2000) ∷ Call.setStrobe (StrobeAt.EachSecond ms) ∷ []); clock = ap (λ (c : Card). c .clock) card-set ∙ page-set ms; pending = ap (λ (c : Card). c .interrupts .pending) card-set }
+
+-- ---- the three lines
+
+pub starred : Each (λ (l : Wait). Holds (Example.wait l)) waits
+unfolding sourcesRaised raised sourceListed
+starred = (
+  (page-card 200 (lit≤ tt), says _ _ (record { records = at-200; places = refl; row = refl; passed = refl; count = refl; pending = refl })),
   (
-    says _ _ (record { records = at-200; places = refl; row = refl; passed = refl; count = refl; pending = refl }),
+    (page-card 200 (lit≤ tt), says _ _ (record { records = at-200; places = refl; row = refl; passed = refl; count = refl; pending = refl })),
     (
-      says _ _ (record { records = at-400; places = refl; row = refl; passed = refl; count = refl; pending = refl }),
+      (page-card 400 (lit≤ tt), says _ _ (record { records = at-400; places = refl; row = refl; passed = refl; count = refl; pending = refl })),
       tt,
     ),
   ),

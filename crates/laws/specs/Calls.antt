@@ -7,9 +7,16 @@ use mathlib.Core.List.{List, [], _∷_}
 use lib.ListN.{length}
 use lib.Dec.{eqb}
 use Rattle.wire.specs.Digits.{pick}
+use Rattle.wire.specs.Packets.{packetIn}
+use Rattle.wire.specs.declared.packets.Packet.{Packet}
+use Rattle.wire.specs.declared.packets.Packet.the-variants as Packet
 use Rattle.clock.specs.declared.setting.StrobeAt.{StrobeAt}
 use Rattle.clock.specs.declared.setting.Dividers.{Dividers}
+use Rattle.parts.specs.declared.queue.Queue.{Queue}
+use Rattle.parts.specs.Pending.{bit}
+use Rattle.parts.specs.Queues.{queued}
 use Rattle.card.specs.declared.card.Card.{Card}
+use Rattle.card.specs.Packets.{ackRefusal}
 use Rattle.card.specs.declared.registers.InterruptLine.{InterruptLine}
 use Rattle.card.specs.declared.waiting.Waited.{Waited}
 use Rattle.card.specs.Registers
@@ -110,7 +117,7 @@ left (Call.load bytes) c = bytes
 -- FIELDS
 
 pub data Field : Type 0 where
-  queue time strobe periodic timeLatch control eventLatch settings mask pending level vector done : Field
+  queue time strobe periodic timeLatch control eventLatch mode format modulation clockSource generator offset mask pending level vector done : Field
 
 -- fields are told apart by their place in the card
 abbrev place : Field → ℕ
@@ -121,12 +128,17 @@ place Field.periodic = 3
 place Field.timeLatch = 4
 place Field.control = 5
 place Field.eventLatch = 6
-place Field.settings = 7
-place Field.mask = 8
-place Field.pending = 9
-place Field.level = 10
-place Field.vector = 11
-place Field.done = 12
+place Field.mode = 7
+place Field.format = 8
+place Field.modulation = 9
+place Field.clockSource = 10
+place Field.generator = 11
+place Field.offset = 12
+place Field.mask = 13
+place Field.pending = 14
+place Field.level = 15
+place Field.vector = 16
+place Field.done = 17
 
 unfoldable pub among : List Field → Field → Bool
 among [] f = false
@@ -146,7 +158,14 @@ Same fs c d = d ≡ record {
     control = pick (among fs Field.control) (d .event .control) (c .event .control);
     latch = pick (among fs Field.eventLatch) (d .event .latch) (c .event .latch);
   };
-  settings = pick (among fs Field.settings) (d .settings) (c .settings);
+  settings = record {
+    mode = pick (among fs Field.mode) (d .settings .mode) (c .settings .mode);
+    format = pick (among fs Field.format) (d .settings .format) (c .settings .format);
+    modulation = pick (among fs Field.modulation) (d .settings .modulation) (c .settings .modulation);
+    clock = pick (among fs Field.clockSource) (d .settings .clock) (c .settings .clock);
+    generator = pick (among fs Field.generator) (d .settings .generator) (c .settings .generator);
+    offset = pick (among fs Field.offset) (d .settings .offset) (c .settings .offset);
+  };
   interrupts = record {
     mask = pick (among fs Field.mask) (d .interrupts .mask) (c .interrupts .mask);
     pending = pick (among fs Field.pending) (d .interrupts .pending) (c .interrupts .pending);
@@ -156,15 +175,32 @@ Same fs c d = d ≡ record {
   done = pick (among fs Field.done) (d .done) (c .done);
 }
 
--- what a register's reading and writing may touch
+-- WHAT A CALL MAY TOUCH
+
+-- what a packet sets
+abbrev pub packetTouches : Packet → List Field
+packetTouches (Packet.A m) = Field.mode ∷ []
+packetTouches (Packet.G z) = Field.offset ∷ []
+packetTouches (Packet.H f m) = Field.format ∷ Field.modulation ∷ []
+packetTouches (Packet.I s) = Field.clockSource ∷ []
+packetTouches (Packet.K g) = Field.generator ∷ []
+
+-- ACK: the done bit, by bit 0 or bit 7; by bit 7 the queue, and what an accepted packet sets
+unfoldable pub ackTouches : ℕ → Queue → List Field
+ackTouches v q =
+    pick (bit 128 v) (Field.done ∷ Field.queue ∷ pick (eqb (ackRefusal q) 0) (packetTouches (packetIn (queued q))) [])
+    (pick (bit 1 v) (Field.done ∷ [])
+    [])
+
+-- reading and writing a register
 unfoldable pub readTouches : ℕ → List Field
 readTouches reg = pick (eqb reg 0) (Field.timeLatch ∷ []) []
 
-unfoldable pub writeTouches : ℕ → List Field
-writeTouches reg =
+unfoldable pub writeTouches : ℕ → ℕ → Queue → List Field
+writeTouches reg v q =
     pick (eqb reg 0) (Field.timeLatch ∷ [])
     (pick (eqb reg 11) (Field.control ∷ [])
-    (pick (eqb reg 12) (Field.done ∷ Field.queue ∷ Field.settings ∷ [])
+    (pick (eqb reg 12) (ackTouches v q)
     (pick (eqb reg 13) (Field.queue ∷ [])
     (pick (eqb reg 14) (Field.mask ∷ [])
     (pick (eqb reg 15) (Field.pending ∷ [])
@@ -172,17 +208,41 @@ writeTouches reg =
     (pick (eqb reg 17) (Field.vector ∷ [])
     [])))))))
 
--- what a call may touch
-unfoldable pub touches : Call → List Field
-touches (Call.setTime year day hour minute second) = Field.time ∷ []
-touches (Call.read reg) = readTouches reg
-touches (Call.write reg v) = writeTouches reg
-touches (Call.edge falling) = Field.eventLatch ∷ Field.pending ∷ []
-touches Call.line = []
-touches (Call.setStrobe s) = Field.strobe ∷ []
-touches (Call.setPeriodic d) = Field.periodic ∷ []
-touches (Call.wait n row) = Field.time ∷ Field.pending ∷ Field.periodic ∷ []
-touches Call.reset =
-    Field.timeLatch ∷ Field.eventLatch ∷ Field.control ∷ Field.done ∷ Field.mask ∷ Field.pending ∷ Field.level ∷ Field.vector ∷ Field.queue ∷ Field.settings ∷ Field.strobe ∷ Field.periodic ∷ []
-touches (Call.save row) = []
-touches (Call.load bytes) = Field.settings ∷ []
+-- a call on a card
+unfoldable pub touches : Call → Card → List Field
+touches (Call.setTime year day hour minute second) c = Field.time ∷ []
+touches (Call.read reg) c = readTouches reg
+touches (Call.write reg v) c = writeTouches reg v (c .queue)
+touches (Call.edge falling) c = Field.eventLatch ∷ Field.pending ∷ []
+touches Call.line c = []
+touches (Call.setStrobe s) c = Field.strobe ∷ []
+touches (Call.setPeriodic d) c = Field.periodic ∷ []
+touches (Call.wait n row) c = Field.time ∷ Field.pending ∷ Field.periodic ∷ []
+touches Call.reset c =
+    Field.clockSource ∷ Field.offset ∷ Field.timeLatch ∷ Field.eventLatch ∷ Field.control ∷ Field.mask ∷ Field.pending ∷ Field.level ∷ Field.vector ∷ Field.done ∷ Field.queue ∷ Field.strobe ∷ Field.periodic ∷ []
+touches (Call.save row) c = []
+touches (Call.load bytes) c = Field.mode ∷ Field.format ∷ Field.modulation ∷ Field.clockSource ∷ Field.generator ∷ Field.offset ∷ []
+
+-- THE LATCHES
+
+-- the calls that leave something in the time latch, and in the event latch
+pub data LatchesTime : Call → Type 0 where
+  reads : LatchesTime (Call.read 0)
+  writes : (v : ℕ) → LatchesTime (Call.write 0 v)
+  resets : LatchesTime Call.reset
+
+pub data LatchesEvent : Call → Type 0 where
+  edges : (falling : Bool) → LatchesEvent (Call.edge falling)
+  resets : LatchesEvent Call.reset
+
+-- CHAINS
+
+-- the card after a chain of calls
+abbrev pub afterAll : List Call → Card → Card
+afterAll [] c = c
+afterAll (k ∷ ks) c = afterAll ks (after k c)
+
+-- a card when bytes were written to FIFO, one by one
+abbrev pub fed : Card → List ℕ → Card
+fed c [] = c
+fed c (b ∷ bs) = fed (Registers.writeRegister c 13 b .card) bs

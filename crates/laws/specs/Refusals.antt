@@ -1,15 +1,38 @@
--- What the page lets a refused call do: the exceptions to "refused, so unchanged", and the values beside a refusal, each as one definition with its cases.
+-- Refusals of all calls: the table of each, the exceptions to "refused, so unchanged", and the values beside a refusal, each as one definition with its cases.
 use Prim.Native.Nat.{ℕ}
 use mathlib.Core.Path.{_≡_}
-use mathlib.Core.Bool.{true, false}
-use mathlib.Core.List.{List, [], _∷_}
+use mathlib.Core.Bool.{true, false, _&&_, not}
+use mathlib.Core.List.{List, [], _∷_, _++_}
+use lib.Dec.{eqb}
+use lib.ListN.{length}
+use Rattle.wire.specs.Digits.{pick}
+use Rattle.wire.specs.Numbers.{Line, _if_}
+use Rattle.clock.specs.Setting.{timeLines, strobeLines, dividerLines}
+use Rattle.clock.specs.Waiting.{waitLines}
+use Rattle.parts.specs.Pending.{bit}
+use Rattle.parts.specs.Queues.{emptyQueue}
+use Rattle.parts.specs.Saved.{savedLines}
 use Rattle.card.specs.declared.card.Card.{Card}
 use Rattle.card.specs.Cards.{withDone, withQueue}
-use Rattle.parts.specs.Pending.{bit}
 use Rattle.card.specs.Lawful.{lawful}
-use Rattle.parts.specs.Queues.{emptyQueue}
-use Rattle.card.specs.Packets.{ackRefusal}
+use Rattle.card.specs.Packets.{ackLines, ackRefusal}
+use Rattle.card.specs.Registers.{readLines, writeLines}
+use Rattle.card.specs.Saved.{saveLines}
 use Rattle.laws.specs.Calls.{Call}
+
+-- the lines of a call, in the page's order: its number is given exactly if that line holds and no line above it does, and 0 if none holds
+abbrev pub lines : Call → Card → List Line
+lines (Call.setTime year day hour minute second) c = 18 if not (lawful c) ∷ timeLines year day hour minute second
+lines (Call.read reg) c = readLines (lawful c) reg
+lines (Call.write reg v) c = writeLines (lawful c) reg (c .queue .fill) ++ pick (eqb reg 12 && bit 128 v) (ackLines (c .queue)) []
+lines (Call.edge falling) c = 18 if not (lawful c) ∷ []
+lines Call.line c = 18 if not (lawful c) ∷ []
+lines (Call.setStrobe s) c = 18 if not (lawful c) ∷ strobeLines s
+lines (Call.setPeriodic d) c = 18 if not (lawful c) ∷ dividerLines d
+lines (Call.wait n row) c = 18 if not (lawful c) ∷ waitLines (c .clock) n (length row)
+lines Call.reset c = 18 if not (lawful c) ∷ []
+lines (Call.save row) c = saveLines c (length row)
+lines (Call.load bytes) c = 18 if not (lawful c) ∷ savedLines bytes
 
 -- a refused call that changes the card: the call, the card before and after, and the number
 pub data Excepted : Call → Card → Card → ℕ → Type 0 where

@@ -3,3 +3,5 @@ pub mod Laws
 pub mod Fresh
 pub mod Going
 pub mod Parts
+pub mod Cuts
+pub mod Listed

@@ -1,16 +1,19 @@
 -- The bench's listing: standard input cut into pieces, and for each piece its number and the answer of a fresh card of its own.
 use Prim.Native.Nat.{ℕ, suc, _+_, _-_, _≤_, _<_, _^_}
 use mathlib.Core.Path.{_≡_}
-use mathlib.Core.Bool.{Bool, true, _&&_, _||_}
+use mathlib.Core.Bool.{Bool, true, false, _&&_, _||_}
 use mathlib.Core.List.{List, [], _∷_, _++_}
+use mathlib.Core.Logic.{_⊎_}
 use lib.ListN.{length, take, drop, replicate}
 use lib.Dec.{leb, ltb, eqb}
 use Rattle.wire.specs.Digits.{pick, digits, below}
-use Rattle.wire.specs.Packets.{ascii}
+use Rattle.wire.specs.Packets.{ascii, has, packetRefusal}
 use Rattle.parts.specs.declared.queue.Queue.{Queue}
 use Rattle.card.specs.declared.card.Card.{Card}
 use Rattle.card.specs.Registers.{writeRegister}
 use Rattle.card.specs.Reset.{freshCard}
+use Rattle.laws.specs.Calls.{fed}
+use Rattle.laws.specs.Examples.{Each}
 use Rattle.listing.specs.declared.feeding.Bench.{Bench}
 use Rattle.listing.specs.declared.feeding.Fed.{Fed}
 
@@ -36,11 +39,6 @@ lastPiece [] = []
 lastPiece (b ∷ bs) = (b ∷ bs) ∷ []
 
 -- ANSWERS
-
--- a card when bytes were written to FIFO, one by one
-unfoldable pub fed : Card → List ℕ → Card
-fed c [] = c
-fed c (b ∷ bs) = fed (writeRegister c 13 b .card) bs
 
 -- what writing 0x80 to ACK answers, on a fresh card with a piece in its queue
 unfoldable pub answerOf : List ℕ → ℕ
@@ -165,6 +163,33 @@ pub data Runs : Bench → List ℕ → List ℕ → Type 0 where
   called : {b : Bench} {text : List ℕ} (part later row : List ℕ) →
       Runs (feed b part (length row) .bench) (drop (feed b part (length row) .taken) part ++ later) text →
       Runs b (part ++ later) (take (feed b part (length row) .written) (rowFed b part row) ++ text)
+
+-- WHAT A CUT IS
+
+-- a piece: at most 41 bytes, no 0x17 before its last byte, and it ends in 0x17 or has 41
+pub record Piece (p : List ℕ) : Type 0 where
+  pub before : List ℕ
+  pub last : ℕ
+  pub bytes : p ≡ before ++ (last ∷ [])
+  pub short : length p ≤ 41
+  pub none : has 0x17 before ≡ false
+  pub end : (last ≡ 0x17) ⊎ (length p ≡ 41)
+
+-- bytes that are not cut: fewer than 41, and no 0x17
+pub record Uncut (bs : List ℕ) : Type 0 where
+  pub short : length bs < 41
+  pub none : has 0x17 bs ≡ false
+
+-- an input cut into pieces and a rest: joined, they are the input
+pub record Cut (input : List ℕ) (ps : List (List ℕ)) (left : List ℕ) : Type 0 where
+  pub joined : joinedParts ps ++ left ≡ input
+  pub each : Each Piece ps
+  pub uncut : Uncut left
+
+-- the lines of pieces, numbered from n on, each with the number that the table of packets gives
+unfoldable pub tableLines : ℕ → List (List ℕ) → List ℕ
+tableLines n [] = []
+tableLines n (p ∷ ps) = line n (packetRefusal p) ++ tableLines (suc n) ps
 
 -- WITHIN THE CRATE
 

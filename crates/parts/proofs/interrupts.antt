@@ -1,1 +1,3 @@
 pub mod Laws
+pub mod Bits
+pub mod Raised

@@ -1,6 +1,6 @@
 -- The interrupt registers: MASK, the pending bits, LEVEL and VECTOR. Their ranges, what writing one does, what an occurrence raises, and whether the line is up.
 use Prim.Native.Nat.{ℕ, _%_}
-use mathlib.Core.Bool.{Bool, true, _&&_, not}
+use mathlib.Core.Bool.{Bool, true, false, _&&_, not}
 use lib.Dec.{ltb, eqb}
 use Rattle.wire.specs.Digits.{pick}
 use Rattle.parts.specs.declared.interrupts.Interrupts.{Interrupts}
@@ -40,6 +40,10 @@ eventRaised i = withPending i (raised 1 true (i .pending))
 -- periodic raises bit 1, strobe bit 2, second bit 3
 unfoldable pub sourcesRaised : Bool → Bool → Bool → ℕ → ℕ
 sourcesRaised periodic strobe second pending = raised 2 periodic (raised 4 strobe (raised 8 second pending))
+
+-- which of them raises the bit of an index
+abbrev pub sourceOf : ℕ → Bool → Bool → Bool → Bool
+sourceOf i periodic strobe second = pick (eqb i 1) periodic (pick (eqb i 2) strobe (pick (eqb i 3) second false))
 
 -- the line is up exactly if LEVEL is not 0 and some pending bit is also set in MASK
 unfoldable pub lineUp : Interrupts → Bool

@@ -1,7 +1,7 @@
 -- Pending bits, by their weights: 1 event, 2 periodic, 4 strobe, 8 second, 16 output packet.
-use Prim.Native.Nat.{ℕ, _+_, _-_, _/_, _%_, _≤_, _<_}
+use Prim.Native.Nat.{ℕ, _+_, _-_, _/_, _%_, _^_, _≤_, _<_}
 use mathlib.Core.Path.{_≡_}
-use mathlib.Core.Bool.{Bool, _&&_, _||_}
+use mathlib.Core.Bool.{Bool, true, _&&_, _||_}
 use lib.Dec.{eqb}
 use Rattle.wire.specs.Digits.{pick}
 
@@ -25,6 +25,13 @@ cleared value pending =
 unfoldable pub meet : ℕ → ℕ → Bool
 meet a b =
     (bit 1 a && bit 1 b) || ((bit 2 a && bit 2 b) || ((bit 4 a && bit 4 b) || ((bit 8 a && bit 8 b) || (bit 16 a && bit 16 b))))
+
+-- a bit, 0 to 4, that is set in both
+pub record Shared (a b : ℕ) : Type 0 where
+  pub place : ℕ
+  pub within : place < 5
+  pub first : bit (2 ^ place) a ≡ true
+  pub second : bit (2 ^ place) b ≡ true
 
 -- WITHIN THE CRATE
 

@@ -114,6 +114,11 @@ rowPut s row = pick (eqb (putRefusal s (length row)) 0) (savedForm s ++ drop 5 r
 unfoldable pub readSaved : List ℕ → SettingsRead
 readSaved bytes = pick (eqb (savedRefusal bytes) 0) (SettingsRead.Is (settingsIn (unpacked 2 8 bytes))) SettingsRead.Refused
 
+-- the answer's number as the page has it; its value is the settings, and there is none beside a refusal
+abbrev pub numberLoaded : SettingsRead → ℕ
+numberLoaded (SettingsRead.Is s) = 0
+numberLoaded SettingsRead.Refused = 19
+
 -- WITHIN THE CRATE
 
 -- the parts of `settingsIn`, each by its number

@@ -37,6 +37,8 @@ unfoldable pub unpacked : ℕ → ℕ → List ℕ → List ℕ
 unpacked b k [] = []
 unpacked b k (w ∷ ws) = digits b k w ++ unpacked b k ws
 
+-- WITHIN THE CRATE
+
 -- one decimal digit taken off n: `unit` goes into it so often, and the rest is below `unit`
 pub record Taken (n unit : ℕ) (r : Split) : Type 0 where
   pub sum : n ≡ r .digits * unit + r .rest

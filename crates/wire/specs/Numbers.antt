@@ -16,16 +16,16 @@ abbrev pub _if_ : ℕ → Bool → Line
 n if t = record { number = n; holds = t }
 
 -- the number that a table gives
-unfoldable pub given : List Line → ℕ
+abbrev pub given : List Line → ℕ
 given [] = 0
 given (l ∷ ls) = pick (l .holds) (l .number) (given ls)
 
 -- no line holds
-unfoldable pub quiet : List Line → Bool
+abbrev pub quiet : List Line → Bool
 quiet [] = true
 quiet (l ∷ ls) = not (l .holds) && quiet ls
 
 -- no line has the number n
-unfoldable pub absent : ℕ → List Line → Bool
+abbrev pub absent : ℕ → List Line → Bool
 absent n [] = true
 absent n (l ∷ ls) = not (eqb (l .number) n) && absent n ls

@@ -1,7 +1,9 @@
 -- Packets: byte 0x01, an id byte, data, byte 0x17.
 use Prim.Native.Nat.{ℕ, suc, _+_, _-_}
 use mathlib.Core.Bool.{Bool, true, false, _&&_, _||_, not}
+use mathlib.Core.Path.{_≡_}
 use mathlib.Core.List.{List, [], _∷_, _++_}
+use mathlib.Core.Logic.{_⊎_}
 use lib.ListN.{length, take, drop, getD, replicate}
 use lib.IntN.{ℤ, pos, negsuc, negℤ, natAbs}
 use lib.Dec.{leb, ltb, eqb}
@@ -58,7 +60,7 @@ kindsOf id =
     []))))
 
 -- a mode that has a meaning, and a format that goes with a modulation
-unfoldable pub modeMeans : ℕ → Bool
+abbrev pub modeMeans : ℕ → Bool
 modeMeans mode = not (eqb mode 4) && not (eqb mode 7)
 
 abbrev pub pairMeans : Format → Modulation → Bool
@@ -170,14 +172,6 @@ unfoldable pub values : List ℕ → List ℕ
 values [] = []
 values (b ∷ bs) = (b - 48) ∷ values bs
 
--- a number of decimal digits
-unfoldable pub allDecimal : List ℕ → Bool
-allDecimal [] = true
-allDecimal (b ∷ bs) = isDecimal b && allDecimal bs
-
-unfoldable pub readNumber : List ℕ → Number
-readNumber bs = pick (allDecimal bs) (Number.Is (num 10 (values bs))) Number.Bad
-
 abbrev pub signed : ℕ → ℕ → ℤ
 signed sign n = pick (eqb sign 0x2D) (negℤ (pos n)) (pos n)
 
@@ -194,7 +188,7 @@ meaning id ds =
     (Packet.K (generatorOf (getD ds 0 0))))))
 
 -- a packet with a meaning: no mode 4 or 7, no forbidden pair
-unfoldable pub means : Packet → Bool
+abbrev pub means : Packet → Bool
 means (Packet.A mode) = modeMeans mode
 means (Packet.G offset) = true
 means (Packet.H f m) = pairMeans f m
@@ -234,6 +228,79 @@ readAs n p = pick (eqb n 0) (PacketRead.Is p) (PacketRead.Refused n)
 unfoldable pub readPacket : List ℕ → PacketRead
 readPacket row = readAs (packetRefusal row) (packetIn row)
 
+-- THE ANSWER AS THE PAGE HAS IT: its number, and its values, 0 beside a refusal
+
+abbrev pub numberRead : PacketRead → ℕ
+numberRead (PacketRead.Is p) = 0
+numberRead (PacketRead.Refused n) = n
+
+-- the id; the mode, the offset or the letter of its data; and for H the letter of the modulation
+abbrev pub valuesOf : Packet → ℕ × ℤ × ℕ
+valuesOf (Packet.A mode) = (0x41, pos mode, 0)
+valuesOf (Packet.G offset) = (0x47, offset, 0)
+valuesOf (Packet.H f m) = (0x48, pos (letterOfFormat f), letterOfModulation m)
+valuesOf (Packet.I c) = (0x49, pos (letterOfClock c), 0)
+valuesOf (Packet.K g) = (0x4B, pos (letterOfGenerator g), 0)
+
+abbrev pub noValues : ℕ × ℤ × ℕ
+noValues = (0, pos 0, 0)
+
+abbrev pub valuesRead : PacketRead → ℕ × ℤ × ℕ
+valuesRead (PacketRead.Is p) = valuesOf p
+valuesRead (PacketRead.Refused n) = noValues
+
+-- WRITING
+
+-- a mode of one digit 0 to 7, an offset of seven digits
+abbrev pub fits : Packet → Bool
+fits (Packet.A mode) = leb mode 7
+fits (Packet.G offset) = offsetFits offset
+fits (Packet.H f m) = true
+fits (Packet.I c) = true
+fits (Packet.K g) = true
+
+-- the table of numbers: 9, 10, and 14 last
+unfoldable pub writeRefusal : Packet → ℕ → ℕ
+writeRefusal p room =
+    given
+    (9 if not (fits p)
+    ∷ 10 if not (means p)
+    ∷ 14 if ltb room (length (bytesOf p))
+    ∷ [])
+
+abbrev pub packetWritten : ℕ → ℕ → PacketWritten
+packetWritten n k = record { number = n; bytes = k }
+
+unfoldable pub writePacket : Packet → ℕ → PacketWritten
+writePacket p room = pick (eqb (writeRefusal p room) 0) (packetWritten 0 (length (bytesOf p))) (packetWritten (writeRefusal p room) 0)
+
+-- the row afterwards: places behind the bytes written, and the whole row beside a refusal, as they were
+unfoldable pub rowWritten : Packet → List ℕ → List ℕ
+rowWritten p row = pick (eqb (writeRefusal p (length row)) 0) (bytesOf p ++ drop (length (bytesOf p)) row) row
+
+-- THERE AND BACK
+
+-- offset 0 with a minus
+abbrev pub minusZero : List ℕ
+minusZero = framed 0x47 (0x2D ∷ ascii (digits 10 7 0))
+
+-- a row that reads as a packet holds the bytes of that packet, or offset 0 with a minus, and then what is dropped
+pub record Holds (row : List ℕ) (p : Packet) : Type 0 where
+  pub fitting : fits p ≡ true
+  pub meant : means p ≡ true
+  pub dropped : List ℕ
+  pub bytes : (row ≡ bytesOf p ++ dropped) ⊎ ((p ≡ Packet.G (pos 0)) × (row ≡ minusZero ++ dropped))
+
+-- WITHIN THE CRATE
+
+-- a number of decimal digits
+unfoldable pub allDecimal : List ℕ → Bool
+allDecimal [] = true
+allDecimal (b ∷ bs) = isDecimal b && allDecimal bs
+
+unfoldable pub readNumber : List ℕ → Number
+readNumber bs = pick (allDecimal bs) (Number.Is (num 10 (values bs))) Number.Bad
+
 -- and what an id and data alone read as
 unfoldable pub readBody : ℕ → List ℕ → PacketRead
 readBody id ds = readAs (given (bodyLines (id ∷ ds))) (meaning id ds)
@@ -253,43 +320,9 @@ readSigned sign n = pick (isSign sign) (PacketRead.Is (Packet.G (signed sign n))
 unfoldable pub readFramed : List ℕ → ℕ → PacketRead
 readFramed row e = readAs (given (bodyLines (drop 1 (take e row)))) (meaning (idIn (drop 1 (take e row))) (dataIn (drop 1 (take e row))))
 
--- the number of an answer
-abbrev pub numberRead : PacketRead → ℕ
-numberRead (PacketRead.Is p) = 0
-numberRead (PacketRead.Refused n) = n
-
--- WRITING
-
--- a mode of one digit 0 to 7, an offset of seven digits
-unfoldable pub fits : Packet → Bool
-fits (Packet.A mode) = leb mode 7
-fits (Packet.G offset) = offsetFits offset
-fits (Packet.H f m) = true
-fits (Packet.I c) = true
-fits (Packet.K g) = true
-
--- the table of numbers: 9, 10, and 14 last
-unfoldable pub writeRefusal : Packet → ℕ → ℕ
-writeRefusal p room =
-    given
-    (9 if not (fits p)
-    ∷ 10 if not (means p)
-    ∷ 14 if ltb room (length (bytesOf p))
-    ∷ [])
-
-abbrev pub written : ℕ → ℕ → PacketWritten
-written n k = record { number = n; bytes = k }
-
-unfoldable pub writePacket : Packet → ℕ → PacketWritten
-writePacket p room = pick (eqb (writeRefusal p room) 0) (written 0 (length (bytesOf p))) (written (writeRefusal p room) 0)
-
--- the row afterwards: places behind the bytes written, and the whole row beside a refusal, as they were
-unfoldable pub rowWritten : Packet → List ℕ → List ℕ
-rowWritten p row = pick (eqb (writeRefusal p (length row)) 0) (bytesOf p ++ drop (length (bytesOf p)) row) row
-
 -- bytes put at a row's front, if it has room for them
 unfoldable pub put : List ℕ → ℕ → PacketWritten
-put bs room = pick (ltb room (length bs)) (written 14 0) (written 0 (length bs))
+put bs room = pick (ltb room (length bs)) (packetWritten 14 0) (packetWritten 0 (length bs))
 
 unfoldable pub putInto : List ℕ → List ℕ → List ℕ
 putInto bs row = pick (ltb (length row) (length bs)) row (bs ++ drop (length bs) row)

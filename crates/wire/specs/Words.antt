@@ -28,7 +28,7 @@ wordsOf day tick = packed 16 4 5 (timeDigits day tick)
 unfoldable pub writable : ℕ → ℕ → Bool
 writable day tick = leb 1 day && (leb day 366 && ltb tick ticksOfDay)
 
-unfoldable pub zeroWords : List ℕ
+abbrev pub zeroWords : List ℕ
 zeroWords = 0 ∷ 0 ∷ 0 ∷ 0 ∷ 0 ∷ []
 
 -- the words of a time, five zero words where there is none

@@ -9,7 +9,7 @@ pub struct Split {
     pub rest: u64,
 }
 
-// The digit that counts `unit` in n, which is below ten of it. The only place that divides.
+// The digit that counts `unit` in n, which is below ten of it. On the way from a time to its words, only this divides.
 fn digit(n: u64, unit: u64) -> Split
     requires { ⌜ n < 10 * unit ⌝ }
     ensures { λ r. ⌜ Taken n unit r ⌝ }

@@ -7,10 +7,9 @@ use mathlib.Core.List.{List}
 use mathlib.Core.Bool.{Bool, true, false, _&&_}
 use native.Mathlib.Omega.{arith}
 use lib.Dec.{eqb, leb}
-use lib.ListN.{getD, drop, set}
-use borrow.Author.Tests.{le-leb, lt-leb, lt-ltb, le-ltb, eq-eqb, ne-eqb, leb-true}
-use Rattle.wire.specs.Numbers.{given}
-use Rattle.wire.specs.Words.{writable, wordsOrZero}
+use lib.ListN.{getD, set}
+use borrow.Author.Tests.{le-leb, lt-leb, le-ltb, eq-eqb, ne-eqb}
+use Rattle.wire.specs.Words.{wordsOrZero, timeRead, readWords}
 use Rattle.wire.specs.Packets.{packetRefusal}
 use Rattle.clock.specs.declared.time.Time.{Time}
 use Rattle.clock.specs.Time.{timeLawful}
@@ -22,39 +21,42 @@ use Rattle.card.specs.declared.card.Card.{Card}
 use Rattle.parts.specs.Events.{withLatch}
 use Rattle.parts.specs.Interrupts.{interruptsWritten, lineUp, eventRaised}
 use Rattle.card.specs.Cards.{answer, granted, withTimeLatch, withEvent, withInterrupts, withQueue}
-use Rattle.parts.specs.Queues.{queueLawful, queued}
+use Rattle.parts.specs.Pending.{raised, cleared}
+use Rattle.parts.specs.Queues.{queued}
+use Rattle.parts.proofs.interrupts.Laws.{writes-intstat}
 use Rattle.card.specs.Lawful.{lawful}
 use Rattle.card.specs.Registers.{readRefusal, readRegister, shown, value, wordsAt, wordsNow, writeRefusal, writeRegister, written, captures, edge, interruptLine, line, lineRefusal}
 use Rattle.card.specs.Packets.{ackRefusal}
-use Rattle.wire.specs.Digits.{below}
-use Rattle.wire.proofs.digits.Laws.{and-left}
+use Rattle.wire.proofs.words.Laws.{words-within, in-ranges}
+use Rattle.wire.proofs.words.RoundTrip.{read-written}
+use Rattle.wire.proofs.packets.Read.{refusal-given}
+use Rattle.parts.proofs.queue.Laws.{fill-within}
 use Rattle.wire.proofs.packets.Laws.{and-false}
 use Rattle.card.proofs.lawful.Laws.{parts}
-
--- words can be written for the time of a lawful card
-pub writable-now : (t : Time) → timeLawful t ≡ true → writable (t .day) (t .tick .ticks) ≡ true
-unfolding writable
-writable-now t h =
-    let r = in-range t h in
-    let d = days-in-year (t .year) in
-    simp (le-leb 1 (t .day) (r .proper .day-low), le-leb (t .day) 366 (omega (arith, r .proper .day-high)), lt-ltb _ _ (r .proper .tick))
 
 -- a lawful card has a lawful time
 pub time-lawful : (c : Card) → lawful c ≡ true → timeLawful (c .clock .time) ≡ true
 time-lawful c h = clock.parts (c .clock) (parts c h .clock) .time
 
 pub words-now : (t : Time) → timeLawful t ≡ true → wordsOrZero (t .day) (t .tick .ticks) ≡ wordsAt t
-unfolding wordsOrZero
-words-now t h = simp (writable-now t h)
+words-now t h =
+    let r = in-range t h in
+    words-within (t .day) (t .tick .ticks) (r .proper .day-low) (omega (arith, r .proper .day-high, days-in-year (t .year))) (r .proper .tick)
+
+-- and they read back
+pub words-read : (t : Time) → timeLawful t ≡ true → readWords (wordsAt t) ≡ timeRead 0 (t .day) (t .tick .ticks)
+words-read t h =
+    let r = in-range t h in
+    read-written (t .day) (t .tick .ticks) (in-ranges (t .day) (t .tick .ticks) (r .proper .day-low) (omega (arith, r .proper .day-high, days-in-year (t .year))) (r .proper .tick))
 
 -- a refusal of 0 tells that the card is lawful
 pub read-known : (known : Bool) (reg : ℕ) → readRefusal known reg ≡ 0 → known ≡ true
-unfolding readRefusal given
+unfolding readRefusal
 read-known true reg e = refl
 read-known false reg e = absurd (omega arith)
 
 pub write-known : (known : Bool) (reg fill : ℕ) → writeRefusal known reg fill ≡ 0 → known ≡ true
-unfolding writeRefusal given
+unfolding writeRefusal
 write-known true reg fill e = refl
 write-known false reg fill e = absurd (omega arith)
 
@@ -119,42 +121,41 @@ module _ (k : Bool) (reg fill : ℕ) (l : k ≡ true) (m : reg ≤ 17) (g : 10 <
   two = ap (λ (t : Bool). leb 1 reg && t) (lt-leb reg 10 g) ∙ and-false (leb 1 reg)
 
   pub write-3 : reg ≡ 13 → fill ≡ 64 → 3 ≡ writeRefusal k reg fill
-  unfolding writeRefusal given
+  unfolding writeRefusal
   write-3 r e = simp (l, le-ltb 17 reg m, two, eq-eqb reg 13 r, eq-eqb fill 64 e)
 
   pub write-0 : (eqb reg 13 && eqb fill 64) ≡ false → 0 ≡ writeRefusal k reg fill
-  unfolding writeRefusal given
+  unfolding writeRefusal
   write-0 e = simp (l, le-ltb 17 reg m, two, e)
 
 pub write-2 : (k : Bool) (reg fill : ℕ) → k ≡ true → reg ≤ 17 → (reg ≡ 0 → ⊥) → reg ≤ 10 → 2 ≡ writeRefusal k reg fill
-unfolding writeRefusal given
+unfolding writeRefusal
 write-2 k reg fill l m z t = simp (l, le-ltb 17 reg m, le-leb 1 reg (pos-of-ne-zero z), le-leb reg 10 t)
 
 -- room in a lawful card's queue
 pub queue-within : (c : Card) → lawful c ≡ true → c .queue .fill ≤ 64
-unfolding queueLawful
-queue-within c h = leb-true (c .queue .fill) 64 (and-left (leb (c .queue .fill) 64) (below 1 (drop (c .queue .fill) (c .queue .bytes))) (parts c h .queue))
+queue-within c h = fill-within (c .queue) (parts c h .queue)
 
 pub queue-room : (c : Card) → lawful c ≡ true → (c .queue .fill ≡ 64 → ⊥) → c .queue .fill < 64
 queue-room c h e = lt-of-le-ne (queue-within c h) e
 
 -- the table of ACK is that of the packet in the queue
 pub ack-packet : (q : Queue) → ackRefusal q ≡ packetRefusal (queued q)
-unfolding ackRefusal packetRefusal
-ack-packet q = refl
+unfolding ackRefusal
+ack-packet q = sym (refusal-given (queued q))
 
 -- writing FIFO: 18, 3, or the byte joins the queue
 module _ (c : Card) (v : ℕ) (k : Bool) (ek : k ≡ lawful c) where
   pub fifo-18 : k ≡ false → answer c 18 ≡ writeRegister c 13 v
-  unfolding writeRegister writeRefusal given
+  unfolding writeRegister writeRefusal
   fifo-18 h = simp (sym ek ∙ h)
 
   pub fifo-3 : k ≡ true → c .queue .fill ≡ 64 → answer c 3 ≡ writeRegister c 13 v
-  unfolding writeRegister writeRefusal given
+  unfolding writeRegister writeRefusal
   fifo-3 h e = simp (sym ek ∙ h, eq-eqb (c .queue .fill) 64 e)
 
   pub fifo-joins : k ≡ true → (c .queue .fill ≡ 64 → ⊥) → (bs : List ℕ) → bs ≡ set (c .queue .bytes) (c .queue .fill) (v % 256) → answer (withQueue c (record { bytes = bs; fill = c .queue .fill + 1 })) 0 ≡ writeRegister c 13 v
-  unfolding writeRegister writeRefusal given written
+  unfolding writeRegister writeRefusal written
   fifo-joins h e bs eb = ap (λ (l : List ℕ). answer (withQueue c (record { bytes = l; fill = c .queue .fill + 1 })) 0) eb ∙ simp (sym ek ∙ h, ne-eqb (c .queue .fill) 64 e)
 
 -- the interrupt registers
@@ -166,24 +167,24 @@ writes-interrupts c reg v a b d e = simp (ne-eqb reg 0 a, ne-eqb reg 11 b, ne-eq
 -- what an edge answers
 module _ (c : Card) (falling : Bool) (k t : Bool) (ek : k ≡ lawful c) (et : t ≡ captures (c .event .control) falling) where
   pub edge-18 : k ≡ false → answer c 18 ≡ edge c falling
-  unfolding edge granted given
+  unfolding edge granted
   edge-18 h = simp (sym ek ∙ h)
 
   pub edge-captured : k ≡ true → t ≡ true → (ws : List ℕ) → ws ≡ wordsNow c → (i : Interrupts) → i ≡ eventRaised (c .interrupts)
       → answer (withInterrupts (withEvent c (withLatch (c .event) ws)) i) 0 ≡ edge c falling
-  unfolding edge granted given
+  unfolding edge granted
   edge-captured h u ws ew i ei =
       ap₂ (λ (l : List ℕ) (j : Interrupts). answer (withInterrupts (withEvent c (withLatch (c .event) l)) j) 0) ew ei
       ∙ simp (sym ek ∙ h, sym et ∙ u)
 
   pub edge-other : k ≡ true → t ≡ false → answer c 0 ≡ edge c falling
-  unfolding edge granted given
+  unfolding edge granted
   edge-other h u = simp (sym ek ∙ h, sym et ∙ u)
 
 -- what the line answers
 module _ (c : Card) (k : Bool) (ek : k ≡ lawful c) where
   pub line-18 : k ≡ false → interruptLine 18 false 0 0 ≡ line c
-  unfolding line lineRefusal given
+  unfolding line lineRefusal
   line-18 h = simp (sym ek ∙ h)
 
   pub line-up : k ≡ true → lineUp (c .interrupts) ≡ true → interruptLine 0 true (c .interrupts .level) (c .interrupts .vector) ≡ line c
@@ -191,5 +192,16 @@ module _ (c : Card) (k : Bool) (ek : k ≡ lawful c) where
   line-up h u = simp (sym ek ∙ h, u)
 
   pub line-down : k ≡ true → lineUp (c .interrupts) ≡ false → interruptLine 0 false 0 0 ≡ line c
-  unfolding line lineRefusal given
+  unfolding line lineRefusal
   line-down h u = simp (sym ek ∙ h, u)
+
+-- ---- for the laws above: the pending bits that an accepted edge and INTSTAT leave
+
+pub edge-takes : (c : Card) (falling : Bool) → lawful c ≡ true → captures (c .event .control) falling ≡ true
+    → edge c falling .card .interrupts .pending ≡ raised 1 true (c .interrupts .pending)
+unfolding edge granted
+edge-takes c falling l t = simp (l, t)
+
+pub intstat-takes : (c : Card) (v : ℕ) → lawful c ≡ true → writeRegister c 15 v .card .interrupts .pending ≡ cleared v (c .interrupts .pending)
+unfolding writeRegister writeRefusal written
+intstat-takes c v l = simp (l, writes-intstat (c .interrupts) v)

@@ -22,7 +22,7 @@ stays c d n false = refl
 
 module _ (c : Card) (ls : List Line) (d : Clock) where
   by-rest : (t : Bool) → restLawful c ≡ t → onClock c (clock.granted (18 if not (clockLawful (c .clock)) ∷ ls) (c .clock) d) ≡ granted (18 if not (lawful c) ∷ ls) c (withClock c d)
-  unfolding onClock granted given
+  unfolding onClock granted
   by-rest true e =
       let n : ℕ = given (18 if not (clockLawful (c .clock)) ∷ ls) in
       simp (e, rest-lawful c e) (stays c d n (eqb n 0))
@@ -31,3 +31,8 @@ module _ (c : Card) (ls : List Line) (d : Clock) where
   -- refused by 18 or by a line, or the card with the clock set
   pub on-clock : onClock c (clock.granted (18 if not (clockLawful (c .clock)) ∷ ls) (c .clock) d) ≡ granted (18 if not (lawful c) ∷ ls) c (withClock c d)
   on-clock = by-rest (restLawful c) refl
+
+-- for the laws above: a lawful card, and no line holds
+pub sets : (c d : Card) (ls : List Line) → lawful c ≡ true → given ls ≡ 0 → granted (18 if not (lawful c) ∷ ls) c d ≡ answer d 0
+unfolding granted
+sets c d ls l e = rw (l, e)

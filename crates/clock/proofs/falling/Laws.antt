@@ -38,7 +38,7 @@ module _ (x p r : ℕ) (h : r < p) where
   gap-low k = record {
     above = omega arith;
     within = omega arith;
-    falls = small (r - x % p) (omega arith) ∙ omega arith;
+    hit = small (r - x % p) (omega arith) ∙ omega arith;
     none = λ j a b e. omega (arith, small j (omega arith));
   }
 
@@ -48,7 +48,7 @@ module _ (x p r : ℕ) (h : r < p) where
       record {
         above = omega arith;
         within = omega arith;
-        falls = large (p - x % p + r) (omega arith) (omega arith) ∙ omega arith;
+        hit = large (p - x % p + r) (omega arith) (omega arith) ∙ omega arith;
         none = λ j a b e. ⊎-elim (λ l. omega (arith, small j l)) (λ g. omega (arith, large j g (omega arith))) (lt-or-le (x % p + j) p);
       }
 
@@ -57,7 +57,7 @@ module _ (x p r : ℕ) (h : r < p) where
   gap-again e = record {
     above = omega arith;
     within = omega arith;
-    falls = large p (omega arith) (omega arith) ∙ omega arith;
+    hit = large p (omega arith) (omega arith) ∙ omega arith;
     none = λ j a b f. ⊎-elim (λ l. omega (arith, small j l)) (λ g. omega (arith, large j g (omega arith))) (lt-or-le (x % p + j) p);
   }
 
@@ -71,7 +71,7 @@ module _ (test : ℕ → Bool) (x p r : ℕ) (on : (k : ℕ) → test k ≡ eqb 
   falls-next : (a d : ℕ) → Gap (x + a) p r d → NextFall test a (a + d)
   falls-next a d g = record {
     above = omega (arith, g .above);
-    falls = λ h. on (a + d) ∙ eq-eqb _ _ (ap (λ (z : ℕ). z % p) (sym (add-assoc x a d)) ∙ g .falls);
+    hit = λ h. on (a + d) ∙ eq-eqb _ _ (ap (λ (z : ℕ). z % p) (sym (add-assoc x a d)) ∙ g .hit);
     none = λ k l m. on k ∙ ne-eqb _ _ (λ e. g .none (k - a) (omega arith) (omega arith) (ap (λ (z : ℕ). z % p) (omega arith) ∙ e));
   }
 
@@ -79,7 +79,7 @@ module _ (test : ℕ → Bool) (x p r : ℕ) (on : (k : ℕ) → test k ≡ eqb 
   rhythm d h l g = record {
     next = record {
       above = g .above;
-      falls = λ m. on d ∙ eq-eqb _ _ (g .falls);
+      hit = λ m. on d ∙ eq-eqb _ _ (g .hit);
       none = λ k m n. on k ∙ ne-eqb _ _ (g .none k m n);
     };
     again = λ k e. falls-next k p (gap-again (x + k) p r h (eqb-true _ _ (sym (on k) ∙ e)));
@@ -89,7 +89,7 @@ module _ (test : ℕ → Bool) (x p r : ℕ) (on : (k : ℕ) → test k ≡ eqb 
 -- what never falls
 never : (test : ℕ → Bool) → ((k : ℕ) → test k ≡ false) → Rhythm test 0 (record { next = 864000000001; period = 864000000000 })
 never test off = record {
-  next = record { above = omega arith; falls = λ h. absurd (omega arith); none = λ k l m. off k };
+  next = record { above = omega arith; hit = λ h. absurd (omega arith); none = λ k l m. off k };
   again = λ k e. absurd (true-false (sym e ∙ off k));
   small = omega arith;
 }

@@ -5,17 +5,18 @@ use mathlib.Core.Bool.{Bool, true, false, not}
 use mathlib.Core.List.{List, [], _∷_}
 use native.Mathlib.Nat.{le-trans}
 use native.Mathlib.Omega.{arith}
-use borrow.Author.Tests.{eq-eqb, ne-eqb, ltb-false, eqb-false}
+use borrow.Author.Tests.{eq-eqb, ne-eqb, le-ltb, ltb-false, eqb-false}
 use lib.Dec.{ltb, eqb}
 use lib.ListN.{length}
 use Rattle.wire.specs.Numbers.{_if_, given}
 use Rattle.wire.specs.Time.{ticksOfDay}
+use Rattle.wire.proofs.numbers.Laws.{given-zero, quiet-first}
 use Rattle.clock.specs.declared.clock.Clock.{Clock}
 use Rattle.clock.specs.declared.waiting.Listed.{Listed}
 use Rattle.clock.specs.declared.waiting.Passed.{Passed}
 use Rattle.clock.specs.Time.{later}
 use Rattle.clock.specs.Clocks.{clockLawful}
-use Rattle.clock.specs.Waiting.{listed, passed, rowListed, lists, fell, clockLater, waitLines, passRefusal, pass, rowPassed}
+use Rattle.clock.specs.Waiting.{listed, passed, rowListed, sourceListed, fell, clockLater, waitLines, passRefusal, pass, rowPassed}
 use Rattle.clock.specs.Sources.{listing}
 use Rattle.clock.proofs.waiting.Laws.{passes}
 
@@ -25,22 +26,19 @@ pub record Accepted (c : Clock) (n room : ℕ) : Type 0 where
   pub places : 0 < room
   pub year : later n (c .time) .year ≤ 9999
 
-no-line : (x y z : Bool) → given (15 if x ∷ 14 if y ∷ 16 if z ∷ []) ≡ 0 → (x ≡ false) × (y ≡ false) × (z ≡ false)
-unfolding given
-no-line true y z e = absurd (omega arith)
-no-line false true z e = absurd (omega arith)
-no-line false false true e = absurd (omega arith)
-no-line false false false e = (refl, refl, refl)
-
 pub accepted : (c : Clock) (n room : ℕ) → given (waitLines c n room) ≡ 0 → Accepted c n room
 accepted c n room e =
-    let f = no-line (ltb ticksOfDay n) (eqb room 0) (ltb 9999 (later n (c .time) .year)) e in
-    let g : room ≡ 0 → ⊥ = eqb-false room 0 (f .1) in
-    record { ticks = ltb-false _ _ (f .0); places = omega arith; year = ltb-false _ _ (f .2) }
+    let a = quiet-first (ltb ticksOfDay n) _ (given-zero (waitLines c n room) refl .0 e) in
+    let b = quiet-first (eqb room 0) _ (a .1) in
+    let z : room ≡ 0 → ⊥ = eqb-false room 0 (b .0) in
+    record { ticks = ltb-false _ _ (a .0); places = omega arith; year = ltb-false _ _ (quiet-first (ltb 9999 (later n (c .time) .year)) true (b .1) .0) }
+
+-- and the other way round
+pub accepts : (c : Clock) (n room : ℕ) → Accepted c n room → given (waitLines c n room) ≡ 0
+accepts c n room a = simp (le-ltb ticksOfDay n (a .ticks), ne-eqb room 0 (λ e. omega (arith, a .places)), le-ltb 9999 (later n (c .time) .year) (a .year))
 
 -- 18 is not given, so the clock is lawful, and the lines below decide
 known : (k : Bool) (c : Clock) (n room : ℕ) → given (18 if not k ∷ waitLines c n room) ≡ 0 → (k ≡ true) × (given (waitLines c n room) ≡ 0)
-unfolding given
 known true c n room e = (refl, e)
 known false c n room e = absurd (omega arith)
 
@@ -68,10 +66,10 @@ refused c n r row e h =
     let x : eqb (passRefusal c n (length row)) 0 ≡ false = ne-eqb _ _ (λ z. h (e ∙ z)) in
     (simp x (ap (λ (k : ℕ). record { clock = c; number = k; passed = record { ticks = 0 }; written = 0; fell = fell [] }) e), simp x)
 
-pub done : (c : Clock) (n : ℕ) (row₀ row₁ : List ℕ) (w : Listed) (d : Clock) → passRefusal c n (length row₀) ≡ 0 → w ≡ listing c n (length row₀) → row₁ ≡ rowListed c n row₀ → d ≡ clockLater (w .passed) c
+pub pass-answers : (c : Clock) (n : ℕ) (row₀ row₁ : List ℕ) (w : Listed) (d : Clock) → passRefusal c n (length row₀) ≡ 0 → w ≡ listing c n (length row₀) → row₁ ≡ rowListed c n row₀ → d ≡ clockLater (w .passed) c
     → (_≡_ {A = Passed} (record { clock = d; number = 0; passed = record { ticks = w .passed }; written = w .written; fell = w .fell }) (pass c n (length row₀))) × (row₁ ≡ rowPassed c n row₀)
 unfolding pass rowPassed listing
-done c n row₀ row₁ w d e l r k =
+pass-answers c n row₀ row₁ w d e l r k =
     let x : eqb (passRefusal c n (length row₀)) 0 ≡ true = eq-eqb _ _ e in
     (simp x (rw (k, l)), simp x r)
 
@@ -89,7 +87,7 @@ module _ (c : Clock) (n room : ℕ) where
 
   pub pass-not : (table ≡ 0 → ⊥)
       → pass c n room ≡ record { clock = c; number = table; passed = record { ticks = 0 }; written = 0; fell = record { periodic = false; strobe = false; second = false } }
-  unfolding pass passRefusal lists
+  unfolding pass passRefusal sourceListed
   pass-not e = simp (ne-eqb table 0 e)
 
 module _ (c : Clock) (n : ℕ) (row : List ℕ) where

@@ -4,19 +4,23 @@ use mathlib.Core.Path.{_≡_, refl, sym, _∙_, ap}
 use mathlib.Core.Bool.{Bool, true, false}
 use mathlib.Core.List.{List, [], _∷_, _++_, append-assoc, append-nil}
 use native.Mathlib.Omega.{arith}
-use borrow.Author.Tests.{leb-true, leb-false}
+use borrow.Author.Tests.{le-leb, leb-true, leb-false}
 use lib.Dec.{T, leb, lit<, lit≤}
-use Rattle.wire.specs.Time.{ticksOfDay}
+use Rattle.wire.specs.Numbers.{given}
+use Rattle.wire.specs.Time.{ticksOfDay, tickAt}
 use Rattle.clock.specs.declared.clock.Strobe.the-variants as Strobe
 use Rattle.clock.specs.declared.clock.Periodic.the-variants as Periodic
 use Rattle.clock.specs.declared.clock.Clock.{Clock}
 use Rattle.clock.specs.declared.falling.Sources.{Sources}
-use Rattle.clock.specs.Time.{instant}
+use Rattle.clock.specs.declared.setting.StrobeAt.the-variants as StrobeAt
+use Rattle.clock.specs.declared.setting.Dividers.the-variants as Dividers
+use Rattle.clock.specs.Setting.{dateFits, timeLines, strobeFits, strobeLines, dividersFit, dividerLines}
+use Rattle.clock.specs.Time.{daysIn, instant}
 use Rattle.clock.specs.Waiting.{records}
 use Rattle.clock.specs.Sources.{Ready, leastOf, marks, pastOf, allPast}
 use Rattle.clock.proofs.time.Laws.{Proper, days-in-year}
 use Rattle.clock.proofs.falling.Laws.{gap-low, gap-high, second-rhythm, strobe-each, periodic-every}
-use Rattle.clock.proofs.waiting.Window.{quiet, none-before, past-ready, least-more}
+use Rattle.clock.proofs.waiting.Window.{none-fall, none-before, past-ready, least-more}
 
 -- ---- the records, computed
 
@@ -60,7 +64,7 @@ runs (suc f) c a s n h l d t = by (leb (leastOf s) n) refl t (λ r k u. runs f c
         next (past-ready c a s h (omega arith)) k u ∙ ap (λ (rs : List ℕ). rs ++ rest) (least-more c a s h (omega arith)) ∙ append-assoc (records c a) (v ∷ []) rest
     by false e u next =
         let k : n < leastOf s = leb-false _ _ e in
-        quiet c a n l (λ j p q. none-before c a s h j p (omega arith)) ∙ sym (append-nil (records c a))
+        none-fall c a n l (λ j p q. none-before c a s h j p (omega arith)) ∙ sym (append-nil (records c a))
 
 none-yet : (c : Clock) → records c 0 ≡ []
 unfolding records
@@ -100,3 +104,21 @@ at-200 = page 200 (lit< tt) (lit< tt) tt
 pub at-400 : records (pageClock 400) 10000000 ≡ 32000003 ∷ 64000001 ∷ 80000004 ∷ []
 unfolding marks allPast pastOf
 at-400 = page 400 (lit< tt) (lit< tt) tt
+
+-- ---- what sets it
+
+pub page-date : given (timeLines 2004 1 0 0 0) ≡ 0
+unfolding dateFits daysIn
+page-date = refl
+
+pub page-dividers : given (dividerLines (Dividers.By 2000 2000)) ≡ 0
+unfolding dividersFit
+page-dividers = refl
+
+pub page-strobe : (ms : ℕ) → ms ≤ 999 → given (strobeLines (StrobeAt.EachSecond ms)) ≡ 0
+unfolding strobeFits
+page-strobe ms h = simp (le-leb ms 999 h)
+
+pub page-set : (ms : ℕ) → record { time = instant 2004 1 (tickAt 0 0 0 0); strobe = Strobe.EachSecond (record { ms = ms }); periodic = Periodic.Every 2000 2000 0 } ≡ pageClock ms
+unfolding tickAt
+page-set ms = refl

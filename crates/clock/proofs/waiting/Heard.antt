@@ -16,7 +16,7 @@ use Rattle.clock.specs.declared.falling.Sources.{Sources}
 use Rattle.clock.specs.declared.waiting.Listed.{Listed}
 use Rattle.clock.specs.Time.{later}
 use Rattle.clock.specs.Falling.{secondFalls, strobeFalls, periodicFalls, falls}
-use Rattle.clock.specs.Waiting.{recordOf, records, listed, rowListed, lists, fell}
+use Rattle.clock.specs.Waiting.{recordOf, records, listed, rowListed, movedOn, sourceListed, fell}
 use Rattle.clock.specs.Sources.{NextFall, Ready, secondOn, strobeOn, within, listing}
 use Rattle.clock.proofs.waiting.Window.{Filled}
 
@@ -30,19 +30,32 @@ or-assoc : (a b c : Bool) → (a || b) || c ≡ a || (b || c)
 or-assoc true b c = refl
 or-assoc false b c = refl
 
-pub lists-append : (w : ℕ) (xs ys : List ℕ) → lists w (xs ++ ys) ≡ lists w xs || lists w ys
-unfolding lists
-lists-append w [] ys = refl
-lists-append w (x ∷ xs) ys = ap (λ (t : Bool). eqb (x / w % 2) 1 || t) (lists-append w xs ys) ∙ sym (or-assoc (eqb (x / w % 2) 1) (lists w xs) (lists w ys))
+listed-append : (w : ℕ) (xs ys : List ℕ) → sourceListed w (xs ++ ys) ≡ sourceListed w xs || sourceListed w ys
+unfolding sourceListed
+listed-append w [] ys = refl
+listed-append w (x ∷ xs) ys = ap (λ (t : Bool). eqb (x / w % 2) 1 || t) (listed-append w xs ys) ∙ sym (or-assoc (eqb (x / w % 2) 1) (sourceListed w xs) (sourceListed w ys))
 
 is-one : (t : Bool) → eqb (pick t 1 0) 1 ≡ t
 is-one true = refl
 is-one false = refl
 
-lists-record : (w k s : ℕ) (t : Bool) → 0 / w % 2 ≡ 0 → (8 * k + s) / w % 2 ≡ s / w % 2 → s / w % 2 ≡ pick t 1 0 → lists w (recordOf k s) ≡ t
-unfolding lists recordOf
-lists-record w k zero t z e f = ap (λ (x : ℕ). eqb x 1) (sym z ∙ f) ∙ is-one t
-lists-record w k (suc s) t z e f = or-false (eqb ((8 * k + suc s) / w % 2) 1) ∙ ap (λ (x : ℕ). eqb x 1) (e ∙ f) ∙ is-one t
+pub none-listed : (w : ℕ) → sourceListed w [] ≡ false
+unfolding sourceListed
+none-listed w = refl
+
+-- records moved on have the same sources; w is 1, 2 or 4
+listed-moved : (w p : ℕ) → ((r : ℕ) → (8 * p + r) / w % 2 ≡ r / w % 2) → (rs : List ℕ) → sourceListed w (movedOn p rs) ≡ sourceListed w rs
+unfolding sourceListed
+listed-moved w p h [] = refl
+listed-moved w p h (r ∷ rs) = rw (h r, listed-moved w p h rs)
+
+pub listed-both : (w p : ℕ) (rs qs : List ℕ) → ((r : ℕ) → (8 * p + r) / w % 2 ≡ r / w % 2) → sourceListed w (rs ++ movedOn p qs) ≡ (sourceListed w rs || sourceListed w qs)
+listed-both w p rs qs h = listed-append w rs (movedOn p qs) ∙ ap (λ (t : Bool). sourceListed w rs || t) (listed-moved w p h qs)
+
+listed-record : (w k s : ℕ) (t : Bool) → 0 / w % 2 ≡ 0 → (8 * k + s) / w % 2 ≡ s / w % 2 → s / w % 2 ≡ pick t 1 0 → sourceListed w (recordOf k s) ≡ t
+unfolding sourceListed recordOf
+listed-record w k zero t z e f = ap (λ (x : ℕ). eqb x 1) (sym z ∙ f) ∙ is-one t
+listed-record w k (suc s) t z e f = or-false (eqb ((8 * k + suc s) / w % 2) 1) ∙ ap (λ (x : ℕ). eqb x 1) (e ∙ f) ∙ is-one t
 
 weight : (t : Bool) (w : ℕ) → pick t w 0 ≡ w * pick t 1 0
 weight true w = omega arith
@@ -57,22 +70,22 @@ module _ (k : ℕ) (p s d : Bool) where
   abbrev sum : ℕ
   sum = pick p 1 0 + (pick s 2 0 + pick d 4 0)
 
-  has-periodic : lists 1 (recordOf k sum) ≡ p
-  has-periodic = lists-record 1 k sum p refl (omega arith) (omega (arith, weight s 2, weight d 4, at-most-one p))
+  has-periodic : sourceListed 1 (recordOf k sum) ≡ p
+  has-periodic = listed-record 1 k sum p refl (omega arith) (omega (arith, weight s 2, weight d 4, at-most-one p))
 
-  has-strobe : lists 2 (recordOf k sum) ≡ s
-  has-strobe = lists-record 2 k sum s refl (omega arith) (omega (arith, weight s 2, weight d 4, at-most-one p, at-most-one s))
+  has-strobe : sourceListed 2 (recordOf k sum) ≡ s
+  has-strobe = listed-record 2 k sum s refl (omega arith) (omega (arith, weight s 2, weight d 4, at-most-one p, at-most-one s))
 
-  has-second : lists 4 (recordOf k sum) ≡ d
-  has-second = lists-record 4 k sum d refl (omega arith) (omega (arith, weight s 2, weight d 4, at-most-one p, at-most-one s, at-most-one d))
+  has-second : sourceListed 4 (recordOf k sum) ≡ d
+  has-second = listed-record 4 k sum d refl (omega arith) (omega (arith, weight s 2, weight d 4, at-most-one p, at-most-one s, at-most-one d))
 
 -- a source is listed exactly if its first fall is among the ticks
-heard : (c : Clock) (w f : ℕ) (test : ℕ → Bool) → ((k : ℕ) → lists w (recordOf k (falls c k)) ≡ test k) → NextFall test 0 f
-    → (p : ℕ) → p ≤ ticksOfDay → lists w (records c p) ≡ leb f p
-unfolding records lists
+heard : (c : Clock) (w f : ℕ) (test : ℕ → Bool) → ((k : ℕ) → sourceListed w (recordOf k (falls c k)) ≡ test k) → NextFall test 0 f
+    → (p : ℕ) → p ≤ ticksOfDay → sourceListed w (records c p) ≡ leb f p
+unfolding records sourceListed
 heard c w f test has h zero l = sym (lt-leb f 0 (h .above))
 heard c w f test has h (suc p) l =
-    lists-append w (records c p) (recordOf (suc p) (falls c (suc p)))
+    listed-append w (records c p) (recordOf (suc p) (falls c (suc p)))
     ∙ rw (heard c w f test has h p (omega arith), has (suc p)) (by (lt-or-le p f) (lt-or-le (suc p) f))
   where
     by : (p < f) ⊎ (f ≤ p) → (suc p < f) ⊎ (f ≤ suc p) → leb f p || test (suc p) ≡ leb f (suc p)
@@ -80,7 +93,7 @@ heard c w f test has h (suc p) l =
     by (inl x) (inl y) = simp (lt-leb f p x, lt-leb f (suc p) y, h .none (suc p) (omega arith) y)
     by (inl x) (inr y) =
         let e : f ≡ suc p = omega arith in
-        simp (lt-leb f p x, le-leb f (suc p) y) (ap test (sym e) ∙ h .falls (omega arith))
+        simp (lt-leb f p x, le-leb f (suc p) y) (ap test (sym e) ∙ h .hit (omega arith))
 
 module _ (c : Clock) where
   abbrev periodicOn : ℕ → Bool

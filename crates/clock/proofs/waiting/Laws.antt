@@ -11,8 +11,8 @@ use lib.Seq.{take-append-le, take-all, getD-at, getD-take, length-take-le}
 use Rattle.wire.proofs.digits.Laws.{lt-or-le}
 use Rattle.clock.specs.declared.clock.Clock.{Clock}
 use Rattle.clock.specs.Falling.{falls}
-use Rattle.clock.specs.Waiting.{recordOf, records, listed, passed}
-use Rattle.clock.proofs.waiting.Window.{after, split, same-records, record-one, falls-below}
+use Rattle.clock.specs.Waiting.{recordOf, records, listed, passed, Stands}
+use Rattle.clock.proofs.waiting.Window.{behind, split, same-records, record-one, falls-below}
 
 -- ---- exactness
 
@@ -58,27 +58,21 @@ every-record c (suc n) i h = ⊎-elim (λ l. before l (every-record c n i l)) (�
       front = take-append-le (suc i) (records c n) last l ∙ u .front;
     }
 
--- a number stands in a list
-pub record Stands (r : ℕ) (rs : List ℕ) : Type 0 where
-  pub place : ℕ
-  pub within : place < length rs
-  pub found : getD rs place 0 ≡ r
-
 -- each tick of the window on which something falls has its record
 pub every-fall : (c : Clock) (n k : ℕ) → 1 ≤ k → k ≤ n → 0 < falls c k → Stands (8 * k + falls c k) (records c n)
 unfolding records
 every-fall c n zero l h z = absurd (omega arith)
 every-fall c n (suc j) l h z =
     let v : ℕ = 8 * suc j + falls c (suc j) in
-    let rest : List ℕ = v ∷ after c (suc j) (n - suc j) in
+    let rest : List ℕ = v ∷ behind c (suc j) (n - suc j) in
     let e : records c n ≡ records c j ++ rest =
     same-records c n (suc j + (n - suc j)) (omega arith) ∙ split c (suc j) (n - suc j)
-    ∙ ap (λ (rs : List ℕ). (records c j ++ rs) ++ after c (suc j) (n - suc j)) (record-one (suc j) (falls c (suc j)) z)
-    ∙ append-assoc (records c j) (v ∷ []) (after c (suc j) (n - suc j)) in
+    ∙ ap (λ (rs : List ℕ). (records c j ++ rs) ++ behind c (suc j) (n - suc j)) (record-one (suc j) (falls c (suc j)) z)
+    ∙ append-assoc (records c j) (v ∷ []) (behind c (suc j) (n - suc j)) in
     record {
       place = length (records c j);
       within = omega (arith, ap length e ∙ length-append (records c j) rest);
-      found = ap (λ (rs : List ℕ). getD rs (length (records c j)) 0) e ∙ getD-at (records c j) v (after c (suc j) (n - suc j)) 0 (length (records c j)) refl;
+      found = ap (λ (rs : List ℕ). getD rs (length (records c j)) 0) e ∙ getD-at (records c j) v (behind c (suc j) (n - suc j)) 0 (length (records c j)) refl;
     }
 
 -- and a record that stands in the list is that of a tick of the window on which something falls: it has the sources that fall there
@@ -93,8 +87,8 @@ exact c n r h =
 
 longer : (c : Clock) (a b : ℕ) → a ≤ b → length (records c a) ≤ length (records c b)
 longer c a b h =
-    let e : records c b ≡ records c a ++ after c a (b - a) = same-records c b (a + (b - a)) (omega arith) ∙ split c a (b - a) in
-    omega (arith, ap length e ∙ length-append (records c a) (after c a (b - a)))
+    let e : records c b ≡ records c a ++ behind c a (b - a) = same-records c b (a + (b - a)) (omega arith) ∙ split c a (b - a) in
+    omega (arith, ap length e ∙ length-append (records c a) (behind c a (b - a)))
 
 front-length : (c : Clock) (n i : ℕ) (h : i < length (records c n)) → length (records c (every-record c n i h .tick)) ≡ suc i
 front-length c n i h = ap length (sym (every-record c n i h .front)) ∙ length-take-le (suc i) (records c n) h
@@ -120,7 +114,7 @@ once c n i j h k e =
 
 -- ---- as many as there are places
 
-passed-all : (c : Clock) (n room : ℕ) → length (records c n) ≤ room → passed c n room ≡ n
+pub passed-all : (c : Clock) (n room : ℕ) → length (records c n) ≤ room → passed c n room ≡ n
 unfolding passed
 passed-all c n room l = simp (le-leb (length (records c n)) room l)
 
@@ -154,9 +148,13 @@ passes c n room z =
     (λ g. rw (passed-all c n room g) (omega arith, λ m. m))
     (lt-or-le room (length (records c n)))
 
--- it passes less than the window only if there are more records than places: then the row is full, and the last record is of the last tick passed
+-- it passes less than the window only if there are more records than places: then something falls behind the ticks passed, the row is full, and the last record
+-- is of the last tick passed
 pub record Stops (c : Clock) (n room : ℕ) : Type 0 where
-  pub more : room < length (records c n)
+  pub next : ℕ
+  pub behind : passed c n room < next
+  pub within : next ≤ n
+  pub falling : 0 < falls c next
   pub full : length (listed c n room) ≡ room
   pub last : getD (listed c n room) (pred room) 0 / 8 ≡ passed c n room
 
@@ -164,9 +162,19 @@ pub stops : (c : Clock) (n room : ℕ) → 0 < room → passed c n room < n → 
 unfolding listed
 stops c n room z h = ⊎-elim full (λ g. absurd (omega (arith, passed-all c n room g))) (lt-or-le room (length (records c n)))
   where
+    -- the first record without a place
+    one-more : room < length (records c n) → At c n room
+    one-more l = every-record c n room l
+
+    passed-length : room < length (records c n) → length (records c (passed c n room)) ≡ room
+    passed-length l = ap length (sym (listed-passed c n room z)) ∙ length-take room (records c n) ∙ omega arith
+
     full : room < length (records c n) → Stops c n room
     full l = record {
-      more = l;
+      next = one-more l .tick;
+      behind = ⊎-elim (λ b. b) (λ b. absurd (omega (arith, longer c (one-more l .tick) (passed c n room) b, front-length c n room l, passed-length l))) (lt-or-le (passed c n room) (one-more l .tick));
+      within = one-more l .within;
+      falling = one-more l .falling;
       full = length-take room (records c n) ∙ omega arith;
       last =
           ap (λ (r : ℕ). r / 8) (getD-take room (records c n) (pred room) 0 (omega arith))

@@ -26,30 +26,30 @@ use Rattle.clock.specs.Sources.{Rhythm, Ready, secondOn, strobeOn, least
 -- ---- the records, from one tick on which anything falls to the next
 
 -- the records of the j ticks after tick a
-unfoldable pub after : Clock → ℕ → ℕ → List ℕ
-after c a zero = []
-after c a (suc j) = after c a j ++ recordOf (a + suc j) (falls c (a + suc j))
+unfoldable pub behind : Clock → ℕ → ℕ → List ℕ
+behind c a zero = []
+behind c a (suc j) = behind c a j ++ recordOf (a + suc j) (falls c (a + suc j))
 
-pub split : (c : Clock) (a j : ℕ) → records c (a + j) ≡ records c a ++ after c a j
-unfolding records after
+pub split : (c : Clock) (a j : ℕ) → records c (a + j) ≡ records c a ++ behind c a j
+unfolding records behind
 split c a zero = ap (records c) (add-zero a) ∙ sym (append-nil (records c a))
 split c a (suc j) =
     ap (records c) (add-suc a j)
     ∙ ap (λ (l : List ℕ). l ++ recordOf (suc (a + j)) (falls c (suc (a + j)))) (split c a j)
-    ∙ append-assoc (records c a) (after c a j) (recordOf (suc (a + j)) (falls c (suc (a + j))))
-    ∙ ap (λ (k : ℕ). records c a ++ (after c a j ++ recordOf k (falls c k))) (sym (add-suc a j))
+    ∙ append-assoc (records c a) (behind c a j) (recordOf (suc (a + j)) (falls c (suc (a + j))))
+    ∙ ap (λ (k : ℕ). records c a ++ (behind c a j ++ recordOf k (falls c k))) (sym (add-suc a j))
 
 pub same-records : (c : Clock) (a b : ℕ) → a ≡ b → records c a ≡ records c b
 same-records c a b e = ap (records c) e
 
 -- nothing falls after tick a up to n
-pub quiet : (c : Clock) (a n : ℕ) → a ≤ n → ((k : ℕ) → a < k → k ≤ n → falls c k ≡ 0) → records c n ≡ records c a
+pub none-fall : (c : Clock) (a n : ℕ) → a ≤ n → ((k : ℕ) → a < k → k ≤ n → falls c k ≡ 0) → records c n ≡ records c a
 unfolding records recordOf
-quiet c a zero l h = same-records c 0 a (omega arith)
-quiet c a (suc n) l h =
+none-fall c a zero l h = same-records c 0 a (omega arith)
+none-fall c a (suc n) l h =
     ⊎-elim
     (λ m. ap (λ (s : ℕ). records c n ++ recordOf (suc n) s) (h (suc n) m (omega arith)) ∙ append-nil (records c n)
-    ∙ quiet c a n (omega arith) (λ k p q. h k p (omega arith)))
+    ∙ none-fall c a n (omega arith) (λ k p q. h k p (omega arith)))
     (λ m. same-records c (suc n) a (omega arith))
     (lt-or-le a (suc n))
 
@@ -63,7 +63,7 @@ pub one-more : (c : Clock) (a f : ℕ) → a < f → ((k : ℕ) → a < k → k 
 unfolding records
 one-more c a zero l h z = absurd (omega arith)
 one-more c a (suc f) l h z =
-    ap (λ (rs : List ℕ). rs ++ recordOf (suc f) (falls c (suc f))) (quiet c a f (omega arith) (λ k p q. h k p (omega arith)))
+    ap (λ (rs : List ℕ). rs ++ recordOf (suc f) (falls c (suc f))) (none-fall c a f (omega arith) (λ k p q. h k p (omega arith)))
     ∙ ap (λ (rs : List ℕ). records c a ++ rs) (record-one (suc f) (falls c (suc f)) z)
 
 at-most : (t : Bool) (n : ℕ) → pick t n 0 ≤ n
@@ -84,7 +84,7 @@ module _ (test : ℕ → Bool) (a m : ℕ) (s : Source) (h : Rhythm test a s) (l
   marked =
       ⊎-elim
       (λ n. h .next .none m l n ∙ sym (ne-eqb (s .next) m (λ e. omega arith)))
-      (λ n. let e : s .next ≡ m = omega arith in ap test (sym e) ∙ h .next .falls (omega arith) ∙ sym (eq-eqb _ _ e))
+      (λ n. let e : s .next ≡ m = omega arith in ap test (sym e) ∙ h .next .hit (omega arith) ∙ sym (eq-eqb _ _ e))
       (lt-or-le m (s .next))
 
   past-rhythm : Rhythm test m (pastOf s m)
@@ -92,9 +92,9 @@ module _ (test : ℕ → Bool) (a m : ℕ) (s : Source) (h : Rhythm test a s) (l
   past-rhythm =
       ⊎-elim
       (λ n. rw (ne-eqb (s .next) m (λ e. omega arith))
-      (record { next = record { above = n; falls = h .next .falls; none = λ k p q. h .next .none k (omega arith) q }; again = h .again; small = h .small }))
+      (record { next = record { above = n; hit = h .next .hit; none = λ k p q. h .next .none k (omega arith) q }; again = h .again; small = h .small }))
       (λ n. let e : s .next ≡ m = omega arith in
-      rw (eq-eqb (s .next) m e) (record { next = h .again m (ap test (sym e) ∙ h .next .falls (omega arith)); again = h .again; small = h .small }))
+      rw (eq-eqb (s .next) m e) (record { next = h .again m (ap test (sym e) ∙ h .next .hit (omega arith)); again = h .again; small = h .small }))
       (lt-or-le m (s .next))
 
 least-one : (a b c : ℕ) → (a ≡ min (min a b) c) ⊎ ((b ≡ min (min a b) c) ⊎ (c ≡ min (min a b) c))
@@ -206,7 +206,7 @@ pub record Filled (c : Clock) (n : ℕ) (row₀ row : List ℕ) (p i : ℕ) : Ty
 pub filled-all : (c : Clock) (n : ℕ) (row₀ row : List ℕ) (s : Sources) (a i : ℕ) → Held c n row₀ row s a i → n < leastOf s → Filled c n row₀ row n i
 unfolding listed passed
 filled-all c n row₀ row s a i h l =
-    let e : records c n ≡ records c a = quiet c a n (h .within) (λ k p q. none-before c a s (h .ready) k p (omega arith)) in
+    let e : records c n ≡ records c a = none-fall c a n (h .within) (λ k p q. none-before c a s (h .ready) k p (omega arith)) in
     let len : length (records c n) ≡ i = ap length e ∙ h .count in
     record {
       within = omega arith;
@@ -223,10 +223,10 @@ unfolding listed passed
 filled-full c n row₀ row s a i z d h f l =
     let full : i ≡ length row₀ = omega (arith, h .room, h .same) in
     let m : ℕ = leastOf s in
-    let rest : List ℕ = (8 * m + marks s m) ∷ after c m (n - m) in
+    let rest : List ℕ = (8 * m + marks s m) ∷ behind c m (n - m) in
     let e : records c n ≡ records c a ++ rest =
-    same-records c n (m + (n - m)) (omega arith) ∙ split c m (n - m) ∙ ap (λ (rs : List ℕ). rs ++ after c m (n - m)) (least-more c a s (h .ready) (omega arith))
-    ∙ append-assoc (records c a) ((8 * m + marks s m) ∷ []) (after c m (n - m)) in
+    same-records c n (m + (n - m)) (omega arith) ∙ split c m (n - m) ∙ ap (λ (rs : List ℕ). rs ++ behind c m (n - m)) (least-more c a s (h .ready) (omega arith))
+    ∙ append-assoc (records c a) ((8 * m + marks s m) ∷ []) (behind c m (n - m)) in
     let len : length (records c n) ≡ length (records c a) + length rest = ap length e ∙ length-append (records c a) rest in
     let at : getD (records c n) (pred (length row₀)) 0 ≡ getD (records c a) (pred i) 0 =
     ap (λ (rs : List ℕ). getD rs (pred (length row₀)) 0) e ∙ List·getD-append (records c a) rest 0 (pred (length row₀)) (omega (arith, h .count))

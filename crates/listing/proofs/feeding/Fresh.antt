@@ -22,7 +22,8 @@ use Rattle.card.specs.Registers.{written, writeRegister}
 use Rattle.card.specs.Reset.{freshCard}
 use Rattle.card.proofs.registers.Laws.{write-0}
 use Rattle.laws.proofs.Keeps.{keeps-queue, fresh-lawful}
-use Rattle.listing.specs.Listing.{fed, queueOf, Refilled}
+use Rattle.laws.specs.Calls.{fed}
+use Rattle.listing.specs.Listing.{queueOf, Refilled}
 
 -- a fresh card with bytes in its queue
 abbrev pub holding : List ℕ → Card
@@ -57,7 +58,7 @@ holding-more held b l h =
     (ap₂ (λ (bs : List ℕ) (n : ℕ). withQueue freshCard (record { bytes = bs; fill = n })) (joined-queue held b k (omega arith) h) (let q : length held + 1 ≡ length (held ++ (b ∷ [])) = omega (arith, length-append held (b ∷ [])) in q))
 
 fed-holding : (held xs : List ℕ) → below 256 xs ≡ true → length held + length xs ≤ 64 → fed (holding held) xs ≡ holding (held ++ xs)
-unfolding fed below
+unfolding below
 fed-holding held [] h l = ap holding (sym (append-nil held))
 fed-holding held (x ∷ xs) h l =
     ap (λ (c : Card). fed c xs) (holding-more held x (omega arith) (ltb-true x 256 (and-left (ltb x 256) (below 256 xs) h)))
@@ -75,12 +76,10 @@ fed-fresh held h l = ap (λ (c : Card). fed c held) fresh-empty ∙ fed-holding 
 -- WRITING BYTE BY BYTE
 
 pub fed-append : (c : Card) (xs ys : List ℕ) → fed c (xs ++ ys) ≡ fed (fed c xs) ys
-unfolding fed
 fed-append c [] ys = refl
 fed-append c (x ∷ xs) ys = fed-append (writeRegister c 13 x .card) xs ys
 
 pub fed-more : (c d : Card) (xs : List ℕ) (b : ℕ) → d ≡ fed c xs → writeRegister d 13 b .card ≡ fed c (xs ++ (b ∷ []))
-unfolding fed
 fed-more c d xs b e = ap (λ (x : Card). writeRegister x 13 b .card) e ∙ sym (fed-append c xs (b ∷ []))
 
 -- bytes, one more
@@ -94,7 +93,7 @@ pub record Filled (bs : List ℕ) (c : Card) (i : ℕ) : Type 0 where
   pub bytes : below 256 (take i bs) ≡ true
 
 pub filled-none : (bytes : List ℕ) (c : Card) → c ≡ freshCard → Filled bytes c 0
-unfolding fed below
+unfolding below
 filled-none bytes c e = record { card = e; bytes = refl }
 
 pub filled-more : (bytes : List ℕ) (c d : Card) (i b : ℕ) → Filled bytes c i → i < length bytes → b < 256 → b ≡ getD bytes i 0 → d ≡ writeRegister c 13 b .card → Filled bytes d (i + 1)

@@ -19,7 +19,8 @@ use Rattle.card.specs.Registers.{writeRegister}
 use Rattle.card.specs.Reset.{freshCard}
 use Rattle.listing.specs.declared.feeding.Bench.{Bench}
 use Rattle.listing.specs.declared.feeding.Fed.{Fed}
-use Rattle.listing.specs.Listing.{ends, pieces, rest, fed, answerOf, line, lines, queueOf, heldIn, goesOn, takes, placed, PutLine, partOf, Refilled, Feeds, Feeding, Finishing, feed, rowFed, lastPiece, lastLine}
+use Rattle.laws.specs.Calls.{fed}
+use Rattle.listing.specs.Listing.{ends, pieces, rest, answerOf, line, lines, queueOf, heldIn, goesOn, takes, placed, PutLine, partOf, Refilled, Feeds, Feeding, Finishing, feed, rowFed, lastPiece, lastLine}
 use Rattle.listing.proofs.lines.Laws.{placed-twice, placed-length, put-none}
 use Rattle.listing.proofs.feeding.Laws.{rest-ended, rest-longer, pieces-ended, pieces-same, lines-append, not-full}
 use Rattle.listing.proofs.feeding.Fresh.{fed-fresh, fed-more, byte-more}
@@ -28,7 +29,7 @@ abbrev pub answered : Queue → ℕ → ℕ → ℕ → Fed
 answered q n t w = record { bench = record { queue = q; number = n }; taken = t; written = w }
 
 -- a card holds these k bytes
-pub record Holds (held : List ℕ) (c : Card) (k : ℕ) : Type 0 where
+pub record Keeping (held : List ℕ) (c : Card) (k : ℕ) : Type 0 where
   pub card : c ≡ fed freshCard held
   pub bytes : below 256 held ≡ true
   pub count : k ≡ length held
@@ -37,14 +38,14 @@ pub record Holds (held : List ℕ) (c : Card) (k : ℕ) : Type 0 where
 -- after i bytes of the input: what is held, the next number m, the w bytes written, and what is left to take
 pub record Going (held : List ℕ) (n : ℕ) (input before now : List ℕ) (c : Card) (k m w i : ℕ) : Type 0 where
   pub within : i ≤ length input
-  pub holds : Holds (rest held (take i input)) c k
+  pub holds : Keeping (rest held (take i input)) c k
   pub number : m ≡ n + length (pieces held (take i input))
   pub row : now ≡ placed before 0 (lines n (pieces held (take i input)))
   pub written : w ≡ length (lines n (pieces held (take i input)))
   pub fits : w ≤ length before
   pub left : takes held n (length before) input ≡ i + takes (rest held (take i input)) m (length before - w) (drop i input)
 
-pub going-none : (held : List ℕ) (n : ℕ) (input before : List ℕ) (c : Card) (k : ℕ) → Holds held c k → Going held n input before before c k n 0 0
+pub going-none : (held : List ℕ) (n : ℕ) (input before : List ℕ) (c : Card) (k : ℕ) → Keeping held c k → Going held n input before before c k n 0 0
 unfolding rest pieces lines
 going-none held n input before c k h =
     record {
@@ -134,7 +135,7 @@ module _ (held : List ℕ) (n : ℕ) (input before now : List ℕ) (c d : Card) 
       }
 
   pub going-ended : last ≡ true → (fresh : Card) → fresh ≡ freshCard → (row : List ℕ) (v : ℕ) → PutLine now w m (writeRegister d 12 0x80 .number) row v → Going held n input before row fresh 0 (m + 1) v (i + 1)
-  unfolding lines answerOf fed below
+  unfolding lines answerOf below
   going-ended f fresh ef row v put =
       let e : ends (rest held (take i input)) b ≡ true = sym ended ∙ f in
       let piece = rest held (take i input) ++ (b ∷ []) in

@@ -44,7 +44,11 @@ lines-append n (p ∷ ps) qs =
 
 -- ONE BYTE MORE
 
-or-right : (a b : Bool) → (a || b) ≡ false → b ≡ false
+pub or-left : (a b : Bool) → (a || b) ≡ false → a ≡ false
+or-left true b e = e
+or-left false b e = refl
+
+pub or-right : (a b : Bool) → (a || b) ≡ false → b ≡ false
 or-right true b e = cc
 or-right false b e = e
 

@@ -163,17 +163,17 @@ module _ (row : List ℕ) (at : ℕ) where
 
 -- the digits from place i on are written, and `left` stands above them
 pub record Spelled (n at k : ℕ) (before now : List ℕ) (left i : ℕ) : Type 0 where
-  pub done : ℕ
-  pub sum : i + done ≡ k
+  pub spelled : ℕ
+  pub sum : i + spelled ≡ k
   pub fits : at + k ≤ length before
-  pub above : left ≡ n / 10 ^ done
-  pub row : now ≡ take (at + i) before ++ (ascii (digits 10 done n) ++ drop (at + k) before)
+  pub above : left ≡ n / 10 ^ spelled
+  pub row : now ≡ take (at + i) before ++ (ascii (digits 10 spelled n) ++ drop (at + k) before)
 
 pub spelled-none : (n at k : ℕ) (row : List ℕ) → at + k ≤ length row → Spelled n at k row row n k
 unfolding digits ascii
 spelled-none n at k row h =
     record {
-      done = 0;
+      spelled = 0;
       sum = omega arith;
       fits = h;
       above = sym (div-one n);
@@ -187,14 +187,14 @@ spelled-more n at k before now left i s p =
     let m = at + (i - 1) in
     let e : at + i ≡ suc m = omega arith in
     let l : m < length before = omega (arith, s .sum, s .fits) in
-    let text = ascii (digits 10 (s .done) n) ++ drop (at + k) before in
+    let text = ascii (digits 10 (s .spelled) n) ++ drop (at + k) before in
     let split : take (at + i) before ++ text ≡ take m before ++ (getD before m 0 ∷ text) =
     ap (λ (x : ℕ). take x before ++ text) e ∙ ap (λ (x : List ℕ). x ++ text) (take-suc before m 0 l) ∙ append-assoc (take m before) (getD before m 0 ∷ []) text in
     record {
-      done = suc (s .done);
+      spelled = suc (s .spelled);
       sum = omega (arith, s .sum);
       fits = s .fits;
-      above = ap (λ (x : ℕ). x / 10) (s .above) ∙ div-div-eq-div-mul n (10 ^ s .done) 10 ∙ ap (λ (x : ℕ). n / x) (sym (pow-suc 10 (s .done)));
+      above = ap (λ (x : ℕ). x / 10) (s .above) ∙ div-div-eq-div-mul n (10 ^ s .spelled) 10 ∙ ap (λ (x : ℕ). n / x) (sym (pow-suc 10 (s .spelled)));
       row =
           ap (λ (x : List ℕ). set x m (48 + left % 10)) (s .row ∙ split)
           ∙ set-at (take m before) (getD before m 0) text (48 + left % 10) m (length-take-le m before (omega arith))
@@ -204,7 +204,7 @@ spelled-more n at k before now left i s p =
 pub spelled-all : (n at k : ℕ) (before now : List ℕ) (left i : ℕ) → Places n k → Spelled n at k before now left i → i ≤ 0 → Put before at (decimal n) now (at + k)
 spelled-all n at k before now left i p s h =
     let e : i ≡ 0 = omega arith in
-    let d : s .done ≡ k = omega (arith, s .sum) in
+    let d : s .spelled ≡ k = omega (arith, s .sum) in
     record {
       row =
           s .row
@@ -216,7 +216,7 @@ spelled-all n at k before now left i p s h =
 pub spelled-length : (n at k : ℕ) (before now : List ℕ) (left i : ℕ) → Spelled n at k before now left i → length now ≡ length before
 spelled-length n at k before now left i s =
     omega
-    (arith, ap length (s .row), length-append (take (at + i) before) (ascii (digits 10 (s .done) n) ++ drop (at + k) before), length-append (ascii (digits 10 (s .done) n)) (drop (at + k) before), ascii-length (digits 10 (s .done) n), digits-length 10 (omega arith) (s .done) n, length-take-le (at + i) before (omega (arith, s .sum, s .fits)), length-drop (at + k) before, s .sum, s .fits)
+    (arith, ap length (s .row), length-append (take (at + i) before) (ascii (digits 10 (s .spelled) n) ++ drop (at + k) before), length-append (ascii (digits 10 (s .spelled) n)) (drop (at + k) before), ascii-length (digits 10 (s .spelled) n), digits-length 10 (omega arith) (s .spelled) n, length-take-le (at + i) before (omega (arith, s .sum, s .fits)), length-drop (at + k) before, s .sum, s .fits)
 
 -- one text behind another
 pub put-twice : (a b c : List ℕ) (at r q : ℕ) (s t : List ℕ) → Put a at s b r → Put b r t c q → at + length s + length t ≤ length a → Put a at (s ++ t) c q

@@ -1,16 +1,36 @@
--- Bytes are all zero exactly if they add up to zero. Assumes nothing.
+-- Of a lawful queue; and bytes are all zero exactly if they add up to zero. Assumes nothing.
 use Prim.Native.Nat.{ℕ, zero, suc, _+_, _*_, _-_, _≤_, _<_}
 use mathlib.Core.Path.{_≡_, refl, sym, ap, ap₂, _∙_}
-use mathlib.Core.Bool.{Bool, _&&_}
+use mathlib.Core.Bool.{Bool, true, _&&_}
 use mathlib.Core.List.{List, [], _∷_, _++_}
 use native.Mathlib.Numerals.{add-one}
 use native.Mathlib.Omega.{arith}
-use lib.Dec.{eqb, ltb}
-use lib.ListN.{length, take, drop, getD, take-append-drop}
-use lib.Seq.{take-suc, take-all}
-use borrow.Author.Tests.{eq-eqb, ne-eqb, le-ltb}
+use lib.Dec.{eqb, leb, ltb}
+use lib.ListN.{length, take, drop, set, getD, take-append-drop}
+use lib.Seq.{take-suc, take-all, drop-set-lt, drop-drop}
+use borrow.Author.Tests.{eq-eqb, ne-eqb, le-ltb, leb-true, le-leb}
 use Rattle.wire.specs.Digits.{below}
-use Rattle.parts.specs.Queues.{total}
+use Rattle.wire.proofs.digits.Laws.{and-left, and-both, below-drop, zeros-below}
+use Rattle.parts.specs.declared.queue.Queue.{Queue}
+use Rattle.parts.specs.Queues.{queueLawful, emptyQueue, enqueued, total}
+
+pub fill-within : (q : Queue) → queueLawful q ≡ true → q .fill ≤ 64
+unfolding queueLawful
+fill-within q h = leb-true (q .fill) 64 (and-left (leb (q .fill) 64) (below 1 (drop (q .fill) (q .bytes))) h)
+
+pub empty-lawful : queueLawful emptyQueue ≡ true
+unfolding queueLawful
+empty-lawful = zeros-below 64
+
+pub enqueued-lawful : (q : Queue) (b : ℕ) → q .fill < 64 → queueLawful q ≡ true → queueLawful (enqueued q b) ≡ true
+unfolding queueLawful
+enqueued-lawful q b l h =
+    let a = and-both (leb (q .fill) 64) (below 1 (drop (q .fill) (q .bytes))) h in
+    let e : drop (q .fill + 1) (set (q .bytes) (q .fill) b) ≡ drop 1 (drop (q .fill) (q .bytes)) =
+    drop-set-lt (q .fill + 1) (q .bytes) (q .fill) b (omega arith) ∙ sym (drop-drop 1 (q .fill) (q .bytes)) in
+    simp (le-leb (q .fill + 1) 64 (omega arith), e, below-drop 1 1 (drop (q .fill) (q .bytes)) (a .1))
+
+-- ---- sums
 
 zero-step : (b t : ℕ) (z : Bool) → eqb t 0 ≡ z → eqb (b + t) 0 ≡ (ltb b 1 && z)
 zero-step zero t z e = ap (λ (n : ℕ). eqb n 0) (let q : 0 + t ≡ t = omega arith in q) ∙ e

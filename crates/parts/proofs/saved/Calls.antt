@@ -1,7 +1,7 @@
 -- Saving and loading, by the tables of their refusals. Assumes nothing.
 use Prim.Native.Nat.{ℕ, _≤_, _<_}
-use mathlib.Core.Path.{_≡_, _∙_}
-use mathlib.Core.Bool.{Bool, true, false, _&&_}
+use mathlib.Core.Path.{_≡_, refl, _∙_}
+use mathlib.Core.Bool.{Bool, true, false, _&&_, not}
 use mathlib.Core.List.{List, [], _∷_, _++_}
 use lib.Dec.{eqb, ltb}
 use lib.ListN.{length, drop}
@@ -11,28 +11,28 @@ use Rattle.wire.specs.Numbers.{_if_, given}
 use Rattle.parts.specs.declared.settings.Settings.{Settings}
 use Rattle.parts.specs.declared.saved.SettingsRead.the-variants as SettingsRead
 use Rattle.parts.specs.Settings.{settingsLawful}
-use Rattle.parts.specs.Saved.{savedForm, meaningful, savedRefusal, settingsIn, putRefusal, rowPut, readSaved}
+use Rattle.parts.specs.Saved.{savedForm, meaningful, savedLines, savedRefusal, settingsIn, putRefusal, rowPut, readSaved, numberLoaded}
 
 -- SAVING
 
 module _ (s : Settings) (row : List ℕ) where
   pub put-18 : settingsLawful s ≡ false → (18 ≡ putRefusal s (length row)) × (row ≡ rowPut s row)
-  unfolding putRefusal rowPut given
+  unfolding putRefusal rowPut
   put-18 e = (simp e, simp e)
 
   pub put-14 : settingsLawful s ≡ true → length row < 5 → (14 ≡ putRefusal s (length row)) × (row ≡ rowPut s row)
-  unfolding putRefusal rowPut given
+  unfolding putRefusal rowPut
   put-14 e h = (simp (e, lt-ltb (length row) 5 h), simp (e, lt-ltb (length row) 5 h))
 
   pub put-done : settingsLawful s ≡ true → 5 ≤ length row → (after : List ℕ) → after ≡ savedForm s ++ drop 5 row → (0 ≡ putRefusal s (length row)) × (after ≡ rowPut s row)
-  unfolding putRefusal rowPut given
+  unfolding putRefusal rowPut
   put-done e h after a = (simp (e, le-ltb (length row) 5 h), a ∙ simp (e, le-ltb (length row) 5 h))
 
   -- of lawful settings, the row alone decides
   pub put-known : settingsLawful s ≡ true
       → (putRefusal s (length row) ≡ given (14 if ltb (length row) 5 ∷ []))
       × (rowPut s row ≡ pick (eqb (given (14 if ltb (length row) 5 ∷ [])) 0) (savedForm s ++ drop 5 row) row)
-  unfolding putRefusal rowPut given
+  unfolding putRefusal rowPut
   put-known e = (simp e, simp e)
 
 -- LOADING
@@ -40,6 +40,20 @@ module _ (s : Settings) (row : List ℕ) where
 -- bytes are loaded as settings exactly if they are five, and mean something
 pub loaded : (bytes : List ℕ) (t : Bool) → eqb (length bytes) 5 && meaningful (unpacked 2 8 bytes) ≡ t
     → readSaved bytes ≡ pick t (SettingsRead.Is (settingsIn (unpacked 2 8 bytes))) SettingsRead.Refused
-unfolding readSaved savedRefusal given
+unfolding readSaved savedRefusal
 loaded bytes true h = simp h
 loaded bytes false h = simp h
+
+-- the refusal is that of the lines
+pub refusal-given : (bytes : List ℕ) → savedRefusal bytes ≡ given (savedLines bytes)
+unfolding savedRefusal
+refusal-given bytes = refl
+
+-- and the number of what bytes are loaded as is the number that their lines give
+pub number-loaded : (bytes : List ℕ) → numberLoaded (readSaved bytes) ≡ savedRefusal bytes
+unfolding readSaved savedRefusal
+number-loaded bytes = go (eqb (length bytes) 5 && meaningful (unpacked 2 8 bytes))
+  where
+    go : (t : Bool) → numberLoaded (pick (eqb (given (19 if not t ∷ [])) 0) (SettingsRead.Is (settingsIn (unpacked 2 8 bytes))) SettingsRead.Refused) ≡ given (19 if not t ∷ [])
+    go true = refl
+    go false = refl

@@ -1,6 +1,6 @@
 -- What the code of saved settings rests on: forty bits are the digits of one number, each field stands at its place in it, and so does each byte.
 -- By the laws of digits. Assumes nothing.
-use Prim.Native.Nat.{ℕ, zero, suc, _+_, _*_, _/_, _%_, _^_, _≤_, _<_}
+use Prim.Native.Nat.{ℕ, suc, _+_, _*_, _/_, _%_, _^_, _≤_, _<_}
 use mathlib.Core.Path.{_≡_, refl, sym, _∙_, ap, ap₂}
 use mathlib.Core.Bool.{Bool, true, false, _&&_, not}
 use mathlib.Core.List.{List, [], _∷_, _++_, append-assoc, append-nil}
@@ -16,7 +16,6 @@ use borrow.Author.Tests.{ltb-true, leb-true, eq-eqb, eqb-true}
 use Rattle.wire.specs.Digits.{pick, digits, num, below, packed, unpacked}
 use Rattle.wire.specs.Packets.{modeMeans, pairMeans, offsetFits}
 use Rattle.wire.proofs.digits.Laws.{and-left, and-right, zeros, digits-length, digits-above, digits-mod-pow, digits-split, num-digits}
-use Rattle.wire.specs.Numbers.{given}
 use Rattle.wire.specs.declared.packets.Format.{Format}
 use Rattle.wire.specs.declared.packets.Format.the-variants as Format
 use Rattle.wire.specs.declared.packets.Modulation.{Modulation}
@@ -202,7 +201,7 @@ nineteen true a b = refl
 nineteen false a b = refl
 
 by-bits : (bytes : List ℕ) → length bytes ≡ 5 → readBits (unpacked 2 8 bytes) ≡ readSaved bytes
-unfolding readBits readSaved savedRefusal given
+unfolding readBits readSaved savedRefusal
 by-bits bytes l = rw (eq-eqb (length bytes) 5 l) (nineteen (meaningful (unpacked 2 8 bytes)) (SettingsRead.Is (settingsIn (unpacked 2 8 bytes))) SettingsRead.Refused)
 
 pub five-bytes : (bytes : List ℕ) → length bytes ≡ 5 → (r : SettingsRead) (n : ℕ) → r ≡ readBits (digits 2 40 n) →

@@ -1,4 +1,4 @@
--- `fed` is safe and ends: it counts the bytes up once.
+-- `fed` is safe and ends: it counts the bytes up once, and there are at most 64.
 -- Assumes nothing.
 use Prim.Native.Nat.{_≤_, _-_}
 use native.Mathlib.Omega.{arith}
@@ -7,25 +7,19 @@ use Rattle.refusals.proofs.fed.Statement.{statement}
 use Rattle.refusals.proofs.fed.Tie as tie
 
 abbrev Inv-loop : tie.InvT-loop
-Inv-loop text count c₀ i₀ c i = i ≤ count
+Inv-loop text count c₀ i₀ c i = (i ≤ count) × (count ≤ 64)
 
 abbrev μ-loop : tie.MeasureT-loop
 μ-loop text count c₀ i₀ c i = count - i
 
-fresh-card-requires : tie.Need-fresh-card-requires Inv-loop μ-loop
-fresh-card-requires c κs = search needs
-
 loop-holds : tie.Need-loop-holds Inv-loop μ-loop
 loop-holds c = omega arith
 
-mul-byte-at : tie.Need-mul-byte-at Inv-loop μ-loop
-mul-byte-at c = omega arith
+add-short-at : tie.Need-add-short-at Inv-loop μ-loop
+add-short-at c = omega arith
 
-byte-at-requires : tie.Need-byte-at-requires Inv-loop μ-loop
-byte-at-requires c κs = search needs
-
-cast-write-register : tie.Need-cast-write-register Inv-loop μ-loop
-cast-write-register c = search needs
+short-at-requires : tie.Need-short-at-requires Inv-loop μ-loop
+short-at-requires c κs = search needs
 
 write-register-requires : tie.Need-write-register-requires Inv-loop μ-loop
 write-register-requires c κs = search needs
@@ -48,11 +42,9 @@ fed-spec =
     (tie.spec
     Inv-loop
     μ-loop
-    fresh-card-requires
     loop-holds
-    mul-byte-at
-    byte-at-requires
-    cast-write-register
+    add-short-at
+    short-at-requires
     write-register-requires
     add-i
     loop-less

@@ -87,6 +87,11 @@ below-more b c q (d ∷ ds) h =
     let l : d < b = ltb-true d b (and-left (ltb d b) (below b ds) h) in
     simp (lt-ltb d c (omega arith), below-more b c q ds (and-right (ltb d b) (below b ds) h))
 
+pub zeros-below : (k : ℕ) → below 1 (replicate k 0) ≡ true
+unfolding below
+zeros-below zero = refl
+zeros-below (suc k) = zeros-below k
+
 -- digits of base 1 are zeros
 pub zeros : (ds : List ℕ) → below 1 ds ≡ true → ds ≡ replicate (length ds) 0
 unfolding below
@@ -214,3 +219,8 @@ module _ (n unit t m u r : ℕ) (e : n ≡ t * (10 * unit) + m) (a : t < 10) (f 
 
   pub two-rest : r ≡ n % unit
   two-rest = sym (ap (λ (x : ℕ). x % unit) often ∙ digits-mod (t * 10 + u) g)
+
+pub packed-length : (b k m : ℕ) (ds : List ℕ) → length (packed b k m ds) ≡ m
+unfolding packed
+packed-length b k zero ds = refl
+packed-length b k (suc m) ds = ap suc (packed-length b k m (drop k ds))

@@ -11,12 +11,11 @@ use lib.Dec.{leb, ltb, eqb, lit<, eqb·suc-zero, leb·suc-suc}
 use lib.ListN.{length, take, drop, getD, drop-of-length-le, length-drop, replicate}
 use lib.Seq.{take-suc, take-all, drop-cons, getD-drop, length-take-le, sets, sets-eq}
 use borrow.Author.Tests.{lt-ltb, le-ltb, le-leb, lt-leb, leb-true, eq-eqb, ne-eqb}
-use Rattle.wire.specs.Digits.{pick, digits, num, below}
-use Rattle.wire.specs.Packets.{has, placeOf, bodyOf, frameLines, packetRefusal, readPacket, readFramed, isDecimal, isOctal, isSign, isFormat, isModulation, isClock, isGenerator, modeMeans, pairMeans, formatOf, modulationOf, clockOf, generatorOf, offsetOf, allDecimal, values, readNumber, kindsOf, ofKinds, bodyLines, means, meaning, readAs, readBody, readPair, readSigned, fits, written as wrote, writeRefusal, writePacket, rowWritten, bytesOf, put, putInto}
+use Rattle.wire.specs.Digits.{pick, num, below}
+use Rattle.wire.specs.Packets.{has, placeOf, bodyOf, frameLines, packetRefusal, readPacket, readFramed, isDecimal, isOctal, isSign, isFormat, isModulation, isClock, isGenerator, modeMeans, pairMeans, formatOf, modulationOf, clockOf, generatorOf, offsetOf, allDecimal, values, readNumber, kindsOf, ofKinds, bodyLines, means, meaning, readAs, readBody, readPair, readSigned, fits, packetWritten, writeRefusal, writePacket, rowWritten, bytesOf, put, putInto}
 use Rattle.wire.specs.declared.packets.Packet.{Packet}
 use Rattle.wire.specs.declared.packets.Packet.the-variants as Packet
 use Rattle.wire.specs.declared.packets.PacketWritten.{PacketWritten}
-use Rattle.wire.specs.Numbers.{given}
 use Rattle.wire.specs.declared.packets.PacketRead.{PacketRead}
 use Rattle.wire.specs.declared.packets.PacketRead.the-variants as PacketRead
 use Rattle.wire.specs.declared.packets.Number.{Number}
@@ -67,20 +66,20 @@ place-front b (suc m) (x ∷ xs) h = front-step (eqb x b) (placeOf b xs) (placeO
 
 module _ (row : List ℕ) where
   pub no-start : (eqb (length row) 0 || not (eqb (getD row 0 0) 1)) ≡ true → readPacket row ≡ PacketRead.Refused 4
-  unfolding readPacket packetRefusal frameLines given
+  unfolding readPacket packetRefusal frameLines
   no-start e = simp e
 
   module _ (s : (eqb (length row) 0 || not (eqb (getD row 0 0) 1)) ≡ false) where
     pub too-long : 41 ≤ length row → has 0x17 (take 41 row) ≡ false → readPacket row ≡ PacketRead.Refused 5
-    unfolding readPacket packetRefusal frameLines given
+    unfolding readPacket packetRefusal frameLines
     too-long l h = simp (s, le-leb 41 (length row) l, h)
 
     pub no-end : length row ≤ 40 → has 0x17 row ≡ false → readPacket row ≡ PacketRead.Refused 6
-    unfolding readPacket packetRefusal frameLines given
+    unfolding readPacket packetRefusal frameLines
     no-end l h = simp (s, lt-leb 41 (length row) (omega arith), le-leb (length row) 40 l, h)
 
     pub framed-row : (e : ℕ) → placeOf 0x17 row ≡ e → has 0x17 (take 41 row) ≡ true → has 0x17 row ≡ true → readPacket row ≡ readFramed row e
-    unfolding readPacket packetRefusal frameLines bodyOf readFramed given
+    unfolding readPacket packetRefusal frameLines bodyOf readFramed
     framed-row e p h i = rw (← p) (simp (s, h, i, and-false))
 
 -- it does not stand first in a row that starts with 0x01
@@ -130,7 +129,7 @@ module _ (row : List ℕ) (n : length row ≡ 0 → ⊥) (f : getD row 0 0 ≡ 1
 
 -- id and data of a row whose first 0x17 is at the place e
 pub body-none : (row : List ℕ) → 1 < length row → readFramed row 1 ≡ PacketRead.Refused 7
-unfolding readFramed bodyLines given
+unfolding readFramed bodyLines
 body-none [] h = absurd (omega arith)
 body-none (x ∷ row) h = refl
 
@@ -211,17 +210,17 @@ nine-or-ten false m p = refl
 
 module _ (id : ℕ) (ds : List ℕ) where
   pub body-unknown : eqb (length (kindsOf id)) 0 ≡ true → readBody id ds ≡ PacketRead.Refused 7
-  unfolding readBody bodyLines given
+  unfolding readBody bodyLines
   body-unknown k = simp (k, eqb·suc-zero)
 
   pub body-length : eqb (length (kindsOf id)) 0 ≡ false → eqb (length ds) (length (kindsOf id)) ≡ false → readBody id ds ≡ PacketRead.Refused 8
-  unfolding readBody bodyLines given
+  unfolding readBody bodyLines
   body-length k l = simp (k, l, eqb·suc-zero)
 
   -- a known id with so many data bytes as it has kinds
   pub body-of : eqb (length (kindsOf id)) 0 ≡ false → eqb (length ds) (length (kindsOf id)) ≡ true →
       readBody id ds ≡ pick (ofKinds (kindsOf id) ds) (pick (means (meaning id ds)) (PacketRead.Is (meaning id ds)) (PacketRead.Refused 10)) (PacketRead.Refused 9)
-  unfolding readBody bodyLines given
+  unfolding readBody bodyLines
   body-of k l = simp (k, l, eqb·suc-zero) (nine-or-ten (ofKinds (kindsOf id) ds) (means (meaning id ds)) (meaning id ds))
 
 -- the kinds, byte by byte
@@ -254,25 +253,25 @@ pick-and false t x y = refl
 
 module _ (ds : List ℕ) (l : length ds ≡ 1) where
   pub mode-body : readBody 0x41 ds ≡ pick (isOctal (getD ds 0 0)) (pick (modeMeans (getD ds 0 0 - 48)) (PacketRead.Is (Packet.A (getD ds 0 0 - 48))) (PacketRead.Refused 10)) (PacketRead.Refused 9)
-  unfolding kindsOf meaning means
+  unfolding kindsOf meaning
   mode-body =
       body-of 0x41 ds refl (eq-eqb (length ds) 1 l)
       ∙ ap (λ (t : Bool). pick t (pick (modeMeans (getD ds 0 0 - 48)) (PacketRead.Is (Packet.A (getD ds 0 0 - 48))) (PacketRead.Refused 10)) (PacketRead.Refused 9)) (kinds-one isOctal ds l)
 
   pub clock-body : readBody 0x49 ds ≡ pick (isClock (getD ds 0 0)) (PacketRead.Is (Packet.I (clockOf (getD ds 0 0)))) (PacketRead.Refused 9)
-  unfolding kindsOf meaning means
+  unfolding kindsOf meaning
   clock-body =
       body-of 0x49 ds refl (eq-eqb (length ds) 1 l)
       ∙ ap (λ (t : Bool). pick t (PacketRead.Is (Packet.I (clockOf (getD ds 0 0)))) (PacketRead.Refused 9)) (kinds-one isClock ds l)
 
   pub generator-body : readBody 0x4B ds ≡ pick (isGenerator (getD ds 0 0)) (PacketRead.Is (Packet.K (generatorOf (getD ds 0 0)))) (PacketRead.Refused 9)
-  unfolding kindsOf meaning means
+  unfolding kindsOf meaning
   generator-body =
       body-of 0x4B ds refl (eq-eqb (length ds) 1 l)
       ∙ ap (λ (t : Bool). pick t (PacketRead.Is (Packet.K (generatorOf (getD ds 0 0)))) (PacketRead.Refused 9)) (kinds-one isGenerator ds l)
 
 pub format-body : (ds : List ℕ) → length ds ≡ 2 → readBody 0x48 ds ≡ pick (isFormat (getD ds 0 0)) (readPair (formatOf (getD ds 0 0)) (getD ds 1 0)) (PacketRead.Refused 9)
-unfolding kindsOf meaning means readPair
+unfolding kindsOf meaning readPair
 format-body ds l =
     let f = formatOf (getD ds 0 0) in
     let m = modulationOf (getD ds 1 0) in
@@ -292,7 +291,7 @@ signed-read sign ds true f = simp (f, and-true)
 signed-read sign ds false f = simp (f, and-false)
 
 pub offset-body : (ds : List ℕ) → length ds ≡ 8 → readBody 0x47 ds ≡ signedRead (getD ds 0 0) (readNumber (drop 1 ds))
-unfolding kindsOf meaning means
+unfolding kindsOf meaning
 offset-body ds l =
     body-of 0x47 ds refl (eq-eqb (length ds) 8 l)
     ∙ ap (λ (t : Bool). pick t (PacketRead.Is (Packet.G (offsetOf (getD ds 0 0) (drop 1 ds)))) (PacketRead.Refused 9))
@@ -348,15 +347,15 @@ module _ (ds : List ℕ) (l : length ds ≡ 8) where
 -- WRITING
 
 module _ (bs row : List ℕ) where
-  pub put-short : length row < length bs → (wrote 14 0 ≡ put bs (length row)) × (row ≡ putInto bs row)
+  pub put-short : length row < length bs → (packetWritten 14 0 ≡ put bs (length row)) × (row ≡ putInto bs row)
   unfolding put putInto
   put-short h = (simp (lt-ltb _ _ h), simp (lt-ltb _ _ h))
 
-  pub put-done : length bs ≤ length row → (wrote 0 (length bs) ≡ put bs (length row)) × (sets row 0 bs ≡ putInto bs row)
+  pub put-done : length bs ≤ length row → (packetWritten 0 (length bs) ≡ put bs (length row)) × (sets row 0 bs ≡ putInto bs row)
   unfolding put putInto
   put-done h = (simp (le-ltb _ _ h), rw (le-ltb (length row) (length bs) h) (sets-eq bs row 0 (omega arith) ∙ ap (λ (k : ℕ). bs ++ drop k row) (let q : 0 + length bs ≡ length bs = omega arith in q)))
 
-fourteen : (t : Bool) (k : ℕ) → pick t (wrote 14 0) (wrote 0 k) ≡ pick (eqb (pick t 14 0) 0) (wrote 0 k) (wrote (pick t 14 0) 0)
+fourteen : (t : Bool) (k : ℕ) → pick t (packetWritten 14 0) (packetWritten 0 k) ≡ pick (eqb (pick t 14 0) 0) (packetWritten 0 k) (packetWritten (pick t 14 0) 0)
 fourteen true k = refl
 fourteen false k = refl
 
@@ -365,16 +364,16 @@ fourteen-row true a b = refl
 fourteen-row false a b = refl
 
 module _ (p : Packet) (row : List ℕ) where
-  pub write-9 : fits p ≡ false → (wrote 9 0 ≡ writePacket p (length row)) × (row ≡ rowWritten p row)
-  unfolding writePacket rowWritten writeRefusal given
+  pub write-9 : fits p ≡ false → (packetWritten 9 0 ≡ writePacket p (length row)) × (row ≡ rowWritten p row)
+  unfolding writePacket rowWritten writeRefusal
   write-9 f = (simp f, simp f)
 
-  pub write-10 : fits p ≡ true → means p ≡ false → (wrote 10 0 ≡ writePacket p (length row)) × (row ≡ rowWritten p row)
-  unfolding writePacket rowWritten writeRefusal given
+  pub write-10 : fits p ≡ true → means p ≡ false → (packetWritten 10 0 ≡ writePacket p (length row)) × (row ≡ rowWritten p row)
+  unfolding writePacket rowWritten writeRefusal
   write-10 f m = (simp (f, m), simp (f, m))
 
   pub write-put : (bs : List ℕ) → bs ≡ bytesOf p → fits p ≡ true → means p ≡ true → (r : PacketWritten) (after : List ℕ) → (r ≡ put bs (length row)) × (after ≡ putInto bs row) → (r ≡ writePacket p (length row)) × (after ≡ rowWritten p row)
-  unfolding writePacket rowWritten writeRefusal given put putInto
+  unfolding writePacket rowWritten writeRefusal put putInto
   write-put bs e f m r after w = (
     w .0 ∙ ap (λ (l : List ℕ). put l (length row)) e ∙ simp (f, m) (fourteen (ltb (length row) (length (bytesOf p))) (length (bytesOf p))),
     w .1 ∙ ap (λ (l : List ℕ). putInto l row) e ∙ simp (f, m) (fourteen-row (ltb (length row) (length (bytesOf p))) row (bytesOf p ++ drop (length (bytesOf p)) row)),

@@ -7,12 +7,16 @@ use native.Mathlib.Omega.{arith}
 use lib.Dec.{leb, eqb}
 use borrow.Author.Tests.{eqb-true, eqb-false, eq-eqb, leb-true}
 use Rattle.wire.specs.Digits.{pick}
-use Rattle.wire.specs.Numbers.{Line, given}
-use Rattle.wire.specs.Packets.{frameLines, bodyLines, packetLines, packetRefusal, packetIn, readPacket, numberRead}
+use Rattle.wire.specs.Numbers.{Line, given, absent}
+use Rattle.wire.specs.Packets.{frameLines, bodyLines, packetLines, packetRefusal, packetIn, readPacket, numberRead, valuesOf, noValues, valuesRead}
 use Rattle.wire.specs.declared.packets.Packet.{Packet}
 use Rattle.wire.specs.declared.packets.PacketRead.{PacketRead}
 use Rattle.wire.specs.declared.packets.PacketRead.the-variants as PacketRead
 use Rattle.wire.proofs.digits.Laws.{and-both}
+
+pub refusal-given : (row : List ℕ) → packetRefusal row ≡ given (packetLines row)
+unfolding packetRefusal
+refusal-given row = refl
 
 by-number : (n : ℕ) (p : Packet) (t : Bool) → eqb n 0 ≡ t → numberRead (pick t (PacketRead.Is p) (PacketRead.Refused n)) ≡ n
 by-number n p true e = sym (eqb-true n 0 e)
@@ -23,11 +27,20 @@ pub number-read : (row : List ℕ) → numberRead (readPacket row) ≡ packetRef
 unfolding readPacket
 number-read row = by-number (packetRefusal row) (packetIn row) (eqb (packetRefusal row) 0) refl
 
+-- and its values are those of the packet that it holds, 0 beside a refusal
+values-by : (n : ℕ) (p : Packet) (t : Bool) → valuesRead (pick t (PacketRead.Is p) (PacketRead.Refused n)) ≡ pick t (valuesOf p) noValues
+values-by n p true = refl
+values-by n p false = refl
+
+pub values-read : (row : List ℕ) → valuesRead (readPacket row) ≡ pick (eqb (packetRefusal row) 0) (valuesOf (packetIn row)) noValues
+unfolding readPacket
+values-read row = values-by (packetRefusal row) (packetIn row) (eqb (packetRefusal row) 0)
+
 pub reads-in : (row : List ℕ) → packetRefusal row ≡ 0 → readPacket row ≡ PacketRead.Is (packetIn row)
 unfolding readPacket
 reads-in row e = simp (eq-eqb (packetRefusal row) 0 e)
 
-is-by : (n : ℕ) (p q : Packet) (t : Bool) → eqb n 0 ≡ t → pick t (PacketRead.Is p) (PacketRead.Refused n) ≡ PacketRead.Is q → (n ≡ 0) × (p ≡ q)
+pub is-by : (n : ℕ) (p q : Packet) (t : Bool) → eqb n 0 ≡ t → pick t (PacketRead.Is p) (PacketRead.Refused n) ≡ PacketRead.Is q → (n ≡ 0) × (p ≡ q)
 is-by n p q true e h = (eqb-true n 0 e, cc)
 is-by n p q false e h = absurd (let z : _≡_ {A = ℕ} 0 1 = cc in omega arith)
 
@@ -53,12 +66,17 @@ step true a b m g l h f z = (l, h)
 step false a b m g l h f z = f z
 
 given-within : (a b : ℕ) (ls : List Line) → within a b ls ≡ true → (given ls ≡ 0 → ⊥) → (a ≤ given ls) × (given ls ≤ b)
-unfolding given within
+unfolding within
 given-within a b [] h = λ z. absurd (z refl)
 given-within a b (l ∷ ls) h =
     let f = and-both (leb a (l .number)) (leb (l .number) b && within a b ls) h in
     let g = and-both (leb (l .number) b) (within a b ls) (f .1) in
     step (l .holds) a b (l .number) (given ls) (leb-true a (l .number) (f .0)) (leb-true (l .number) b (g .0)) (given-within a b ls (g .1))
+
+-- no line of the table has the number 0
+pub packet-numbered : (row : List ℕ) → absent 0 (packetLines row) ≡ true
+unfolding frameLines bodyLines
+packet-numbered row = refl
 
 -- a packet is refused by 4 to 10
 pub packet-number : (row : List ℕ) → (packetRefusal row ≡ 0 → ⊥) → (4 ≤ packetRefusal row) × (packetRefusal row ≤ 10)

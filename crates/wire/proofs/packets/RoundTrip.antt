@@ -11,10 +11,10 @@ use lib.Dec.{leb, ltb, eqb, lit<, lit≤, eqb·suc-zero}
 use lib.IntN.{ℤ, pos, negsuc, negℤ, natAbs}
 use lib.ListN.{length, take, drop, getD, replicate, length-append, length-drop, length-take}
 use lib.Seq.{take-append-seam, split-at}
-use borrow.Author.Tests.{lt-ltb, le-leb, ltb-true, leb-true, ne-eqb, eqb-true, not-false}
+use borrow.Author.Tests.{lt-ltb, le-leb, ltb-true, leb-true, ne-eqb, eqb-true, eq-eqb, le-ltb, not-false}
 use Rattle.wire.specs.Digits.{pick, digits, num, below}
-use Rattle.wire.specs.Numbers.{Line, _if_, given}
-use Rattle.wire.specs.Packets.{has, placeOf, bodyOf, frameLines, bodyLines, packetRefusal, readPacket, readFramed, readBody, readAs, kindsOf, ofKinds, meaning, means, fits, pairMeans, isDecimal, isOctal, isSign, isFormat, isModulation, isClock, isGenerator, allDecimal, values, ascii, signOf, signed, offsetOf, readNumber, readSigned, readPair, formatOf, modulationOf, clockOf, generatorOf, letterOfFormat, letterOfModulation, letterOfClock, letterOfGenerator, idOf, dataOf, framed, bytesOf}
+use Rattle.wire.specs.Numbers.{_if_, given, quiet, absent}
+use Rattle.wire.specs.Packets.{has, placeOf, bodyOf, frameLines, bodyLines, packetRefusal, readPacket, readFramed, readBody, readAs, kindsOf, ofKinds, meaning, means, fits, pairMeans, isDecimal, isOctal, isSign, isFormat, isModulation, isClock, isGenerator, allDecimal, values, ascii, signOf, signed, offsetOf, readNumber, readSigned, readPair, formatOf, modulationOf, clockOf, generatorOf, letterOfFormat, letterOfModulation, letterOfClock, letterOfGenerator, idOf, dataOf, framed, bytesOf, packetLines, packetIn, packetWritten, writeRefusal, writePacket, rowWritten, minusZero, Holds}
 use Rattle.wire.specs.declared.packets.Number.{Number}
 use Rattle.wire.specs.declared.packets.Number.the-variants as Number
 use Rattle.wire.specs.declared.packets.Format.{Format}
@@ -29,7 +29,9 @@ use Rattle.wire.specs.declared.packets.Packet.{Packet}
 use Rattle.wire.specs.declared.packets.Packet.the-variants as Packet
 use Rattle.wire.specs.declared.packets.PacketRead.{PacketRead}
 use Rattle.wire.specs.declared.packets.PacketRead.the-variants as PacketRead
-use Rattle.wire.proofs.digits.Laws.{lt-or-le, and-left, and-right, digits-below, digits-length, written, read}
+use Rattle.wire.proofs.digits.Laws.{lt-or-le, and-left, and-right, below-both, digits-below, digits-length, written, read}
+use Rattle.wire.proofs.numbers.Laws.{given-zero, quiet-first}
+use Rattle.wire.proofs.packets.Read.{is-by, read-is}
 use Rattle.wire.proofs.packets.Laws.{place-has, place-front, framed-row, mode-body, clock-body, generator-body, format-body, offset-body, kinds-one, kinds-two, kinds-cons, kinds-decimal, signedRead, seven-small, values-length, values-below}
 
 -- WRITTEN, THEN READ
@@ -152,7 +154,7 @@ offset-read z h =
 
 -- each packet's data is read as that packet
 data-read : (p : Packet) → fits p ≡ true → means p ≡ true → readBody (idOf p) (dataOf p) ≡ PacketRead.Is p
-unfolding fits means dataOf
+unfolding dataOf
 data-read (Packet.A mode) f m =
     let e : 48 + mode - 48 ≡ mode = omega arith in
     mode-body ((48 + mode) ∷ []) refl
@@ -193,16 +195,6 @@ read-written p f m rest = framed-read (idOf p) (dataOf p) rest (id-end p) (data-
 
 -- READ, THEN WRITTEN
 
--- a row that reads as a packet: no line of the table holds, and the packet is what id and data mean
-read-is : (n : ℕ) (q p : Packet) (t : Bool) → eqb n 0 ≡ t → pick t (PacketRead.Is q) (PacketRead.Refused n) ≡ PacketRead.Is p → (n ≡ 0) × (q ≡ p)
-read-is n q p true e h = (eqb-true n 0 e, cc)
-read-is n q p false e h = absurd (let z : _≡_ {A = ℕ} 0 1 = cc in omega arith)
-
-no-line : (n : ℕ) (t : Bool) (ls : List Line) → given (suc n if t ∷ ls) ≡ 0 → (t ≡ false) × (given ls ≡ 0)
-unfolding given
-no-line n true ls e = absurd (omega arith)
-no-line n false ls e = (refl, e)
-
 no-end-line : (n len : ℕ) (t u : Bool) → (leb 41 len && not t) ≡ false → (leb len 40 && not u) ≡ false → (t ≡ true → u ≡ true) → u ≡ true
 no-end-line n len t true a b f = refl
 no-end-line n len true false a b f = f refl
@@ -232,9 +224,8 @@ or-right true t e = absurd (let z : _≡_ {A = ℕ} 0 1 = cc in omega arith)
 
 -- the row, cut at its first 0x17
 module _ (row : List ℕ) (p : Packet) (h : readPacket row ≡ PacketRead.Is p) where
-  accepted : (packetRefusal row ≡ 0) × (meaning (getD (bodyOf row) 0 0) (drop 1 (bodyOf row)) ≡ p)
-  unfolding readPacket
-  accepted = read-is (packetRefusal row) (meaning (getD (bodyOf row) 0 0) (drop 1 (bodyOf row))) p (eqb (packetRefusal row) 0) refl h
+  accepted : (packetRefusal row ≡ 0) × (packetIn row ≡ p)
+  accepted = read-is row p h
 
   abbrev body : List ℕ
   body = bodyOf row
@@ -245,16 +236,20 @@ module _ (row : List ℕ) (p : Packet) (h : readPacket row ≡ PacketRead.Is p) 
   abbrev ds : List ℕ
   ds = drop 1 body
 
-  -- the seven lines, one after the other
-  line-4 : ((eqb (length row) 0 || not (eqb (getD row 0 0) 1)) ≡ false) × (given (5 if (leb 41 (length row) && not (has 0x17 (take 41 row))) ∷ 6 if (leb (length row) 40 && not (has 0x17 row)) ∷ bodyLines body) ≡ 0)
-  unfolding packetRefusal frameLines
-  line-4 = no-line 3 (eqb (length row) 0 || not (eqb (getD row 0 0) 1)) _ (accepted .0)
+  -- none of the seven lines holds
+  none : quiet (packetLines row) ≡ true
+  unfolding packetRefusal frameLines bodyLines
+  none = given-zero (packetLines row) refl .0 (accepted .0)
 
-  line-5 : ((leb 41 (length row) && not (has 0x17 (take 41 row))) ≡ false) × (given (6 if (leb (length row) 40 && not (has 0x17 row)) ∷ bodyLines body) ≡ 0)
-  line-5 = no-line 4 (leb 41 (length row) && not (has 0x17 (take 41 row))) _ (line-4 .1)
+  line-4 : ((eqb (length row) 0 || not (eqb (getD row 0 0) 1)) ≡ false) × (quiet (5 if (leb 41 (length row) && not (has 0x17 (take 41 row))) ∷ 6 if (leb (length row) 40 && not (has 0x17 row)) ∷ bodyLines body) ≡ true)
+  unfolding frameLines
+  line-4 = quiet-first (eqb (length row) 0 || not (eqb (getD row 0 0) 1)) _ none
 
-  line-6 : ((leb (length row) 40 && not (has 0x17 row)) ≡ false) × (given (bodyLines body) ≡ 0)
-  line-6 = no-line 5 (leb (length row) 40 && not (has 0x17 row)) (bodyLines body) (line-5 .1)
+  line-5 : ((leb 41 (length row) && not (has 0x17 (take 41 row))) ≡ false) × (quiet (6 if (leb (length row) 40 && not (has 0x17 row)) ∷ bodyLines body) ≡ true)
+  line-5 = quiet-first (leb 41 (length row) && not (has 0x17 (take 41 row))) _ (line-4 .1)
+
+  line-6 : ((leb (length row) 40 && not (has 0x17 row)) ≡ false) × (quiet (bodyLines body) ≡ true)
+  line-6 = quiet-first (leb (length row) 40 && not (has 0x17 row)) (quiet (bodyLines body)) (line-5 .1)
 
   front-has : has 0x17 (take 41 row) ≡ true → has 0x17 row ≡ true
   front-has e =
@@ -282,7 +277,7 @@ module _ (row : List ℕ) (p : Packet) (h : readPacket row ≡ PacketRead.Is p) 
 
   line-7 : (eqb (length body) 0 || eqb (length (kindsOf id)) 0) ≡ false
   unfolding bodyLines
-  line-7 = no-line 6 (eqb (length body) 0 || eqb (length (kindsOf id)) 0) _ (line-6 .1) .0
+  line-7 = quiet-first (eqb (length body) 0 || eqb (length (kindsOf id)) 0) _ (line-6 .1) .0
 
   -- what stands in front of the end is 0x01, id and data
   body-cons : body ≡ id ∷ ds
@@ -308,17 +303,18 @@ module _ (row : List ℕ) (p : Packet) (h : readPacket row ≡ PacketRead.Is p) 
       ∙ ap₂ (λ (l : List ℕ) (b : ℕ). l ++ b ∷ drop (suc e) row) front-cons (place-is 0x17 row has-end)
       ∙ ap (λ (l : List ℕ). 1 ∷ id ∷ l) (sym (append-assoc ds (0x17 ∷ []) (drop (suc e) row)))
 
+  body-numbers : absent 0 (bodyLines body) ≡ true
+  unfolding bodyLines
+  body-numbers = refl
+
   reads-body : readBody id ds ≡ PacketRead.Is p
   unfolding readBody
   reads-body =
-      ap (λ (n : ℕ). readAs n (meaning id ds)) (ap (λ (b : List ℕ). given (bodyLines b)) (sym body-cons) ∙ line-6 .1)
+      ap (λ (n : ℕ). readAs n (meaning id ds)) (ap (λ (b : List ℕ). given (bodyLines b)) (sym body-cons) ∙ given-zero (bodyLines body) body-numbers .1 (line-6 .1))
       ∙ ap PacketRead.Is (accepted .1)
 
 -- id and data that read as a packet are that packet's own, or those of offset 0 with a minus
-abbrev pub minusZero : List ℕ
-minusZero = framed 0x47 (0x2D ∷ ascii (digits 10 7 0))
-
-pub record Own (id : ℕ) (ds : List ℕ) (p : Packet) : Type 0 where
+record Own (id : ℕ) (ds : List ℕ) (p : Packet) : Type 0 where
   pub fitting : fits p ≡ true
   pub meant : means p ≡ true
   pub bytes : (framed id ds ≡ bytesOf p) ⊎ ((p ≡ Packet.G (pos 0)) × (framed id ds ≡ minusZero))
@@ -375,17 +371,18 @@ two-of (d ∷ x ∷ y ∷ ds) l = absurd (omega arith)
 module _ (id : ℕ) (ds : List ℕ) (p : Packet) (h : readBody id ds ≡ PacketRead.Is p) where
   got : (given (bodyLines (id ∷ ds)) ≡ 0) × (meaning id ds ≡ p)
   unfolding readBody
-  got = read-is (given (bodyLines (id ∷ ds))) (meaning id ds) p (eqb (given (bodyLines (id ∷ ds))) 0) refl h
+  got = is-by (given (bodyLines (id ∷ ds))) (meaning id ds) p (eqb (given (bodyLines (id ∷ ds))) 0) refl h
 
-  l7 : ((eqb (length (id ∷ ds)) 0 || eqb (length (kindsOf id)) 0) ≡ false) × (given (8 if not (eqb (length ds) (length (kindsOf id))) ∷ 9 if not (ofKinds (kindsOf id) ds) ∷ 10 if not (means (meaning id ds)) ∷ []) ≡ 0)
+  -- none of its four lines holds
+  l7 : ((eqb (length (id ∷ ds)) 0 || eqb (length (kindsOf id)) 0) ≡ false) × (quiet (8 if not (eqb (length ds) (length (kindsOf id))) ∷ 9 if not (ofKinds (kindsOf id) ds) ∷ 10 if not (means (meaning id ds)) ∷ []) ≡ true)
   unfolding bodyLines
-  l7 = no-line 6 (eqb (length (id ∷ ds)) 0 || eqb (length (kindsOf id)) 0) _ (got .0)
+  l7 = quiet-first (eqb (length (id ∷ ds)) 0 || eqb (length (kindsOf id)) 0) _ (given-zero (bodyLines (id ∷ ds)) refl .0 (got .0))
 
-  l8 : (not (eqb (length ds) (length (kindsOf id))) ≡ false) × (given (9 if not (ofKinds (kindsOf id) ds) ∷ 10 if not (means (meaning id ds)) ∷ []) ≡ 0)
-  l8 = no-line 7 (not (eqb (length ds) (length (kindsOf id)))) _ (l7 .1)
+  l8 : (not (eqb (length ds) (length (kindsOf id))) ≡ false) × (quiet (9 if not (ofKinds (kindsOf id) ds) ∷ 10 if not (means (meaning id ds)) ∷ []) ≡ true)
+  l8 = quiet-first (not (eqb (length ds) (length (kindsOf id)))) _ (l7 .1)
 
-  l9 : (not (ofKinds (kindsOf id) ds) ≡ false) × (given (10 if not (means (meaning id ds)) ∷ []) ≡ 0)
-  l9 = no-line 8 (not (ofKinds (kindsOf id) ds)) _ (l8 .1)
+  l9 : (not (ofKinds (kindsOf id) ds) ≡ false) × (quiet (10 if not (means (meaning id ds)) ∷ []) ≡ true)
+  l9 = quiet-first (not (ofKinds (kindsOf id) ds)) _ (l8 .1)
 
   known : eqb (length (kindsOf id)) 0 ≡ false
   known = or-right (eqb (length (id ∷ ds)) 0) (eqb (length (kindsOf id)) 0) (l7 .0)
@@ -397,12 +394,12 @@ module _ (id : ℕ) (ds : List ℕ) (p : Packet) (h : readBody id ds ≡ PacketR
   kinds = not-false (ofKinds (kindsOf id) ds) (l9 .0)
 
   meant : means (meaning id ds) ≡ true
-  meant = not-false (means (meaning id ds)) (no-line 9 (not (means (meaning id ds))) [] (l9 .1) .0)
+  meant = not-false (means (meaning id ds)) (quiet-first (not (means (meaning id ds))) true (l9 .1) .0)
 
 -- id by id
 module _ (ds : List ℕ) (p : Packet) where
   own-mode : readBody 0x41 ds ≡ PacketRead.Is p → Own 0x41 ds p
-  unfolding kindsOf meaning fits means dataOf
+  unfolding kindsOf meaning dataOf
   own-mode h =
       let d = getD ds 0 0 in
       let l : length ds ≡ 1 = same-length 0x41 ds p h in
@@ -414,7 +411,7 @@ module _ (ds : List ℕ) (p : Packet) where
       (record { fitting = le-leb (d - 48) 7 (omega arith); meant = meant 0x41 ds p h; bytes = inl (ap (framed 0x41) (one-of ds l ∙ ap (λ (x : ℕ). x ∷ []) q)) })
 
   own-clock : readBody 0x49 ds ≡ PacketRead.Is p → Own 0x49 ds p
-  unfolding kindsOf meaning fits means dataOf
+  unfolding kindsOf meaning dataOf
   own-clock h =
       let l : length ds ≡ 1 = same-length 0x49 ds p h in
       let k = sym (kinds-one isClock ds l) ∙ kinds 0x49 ds p h in
@@ -422,7 +419,7 @@ module _ (ds : List ℕ) (p : Packet) where
       (record { fitting = refl; meant = refl; bytes = inl (ap (framed 0x49) (one-of ds l ∙ ap (λ (x : ℕ). x ∷ []) (sym (clock-back (getD ds 0 0) k)))) })
 
   own-generator : readBody 0x4B ds ≡ PacketRead.Is p → Own 0x4B ds p
-  unfolding kindsOf meaning fits means dataOf
+  unfolding kindsOf meaning dataOf
   own-generator h =
       let l : length ds ≡ 1 = same-length 0x4B ds p h in
       let k = sym (kinds-one isGenerator ds l) ∙ kinds 0x4B ds p h in
@@ -430,7 +427,7 @@ module _ (ds : List ℕ) (p : Packet) where
       (record { fitting = refl; meant = refl; bytes = inl (ap (framed 0x4B) (one-of ds l ∙ ap (λ (x : ℕ). x ∷ []) (sym (generator-back (getD ds 0 0) k)))) })
 
   own-format : readBody 0x48 ds ≡ PacketRead.Is p → Own 0x48 ds p
-  unfolding kindsOf meaning fits means dataOf
+  unfolding kindsOf meaning dataOf
   own-format h =
       let f = getD ds 0 0 in
       let m = getD ds 1 0 in
@@ -450,11 +447,11 @@ module _ (ds : List ℕ) (p : Packet) where
 -- a sign, and seven digits that write n
 module _ (bs : List ℕ) where
   own-plus : (n : ℕ) → n ≤ 9999999 → bs ≡ ascii (digits 10 7 n) → Own 0x47 (0x2B ∷ bs) (Packet.G (pos n))
-  unfolding fits means dataOf signOf
+  unfolding dataOf signOf
   own-plus n h e = record { fitting = le-leb n 9999999 h; meant = refl; bytes = inl (ap (λ (l : List ℕ). framed 0x47 (0x2B ∷ l)) e) }
 
   own-minus : (n : ℕ) → n ≤ 9999999 → bs ≡ ascii (digits 10 7 n) → Own 0x47 (0x2D ∷ bs) (Packet.G (negℤ (pos n)))
-  unfolding fits means dataOf signOf
+  unfolding dataOf signOf
   own-minus zero h e = record { fitting = refl; meant = refl; bytes = inr (refl, ap (λ (l : List ℕ). framed 0x47 (0x2D ∷ l)) e) }
   own-minus (suc n) h e = record { fitting = le-leb (suc n) 9999999 h; meant = refl; bytes = inl (ap (λ (l : List ℕ). framed 0x47 (0x2D ∷ l)) e) }
 
@@ -509,13 +506,6 @@ own id ds p h = go (eqb id 0x41) refl (eqb id 0x47) refl (eqb id 0x48) refl (eqb
     go false _ false _ false _ false _ true e n = case 0x4B e (own-generator ds p)
     go false a false g false i false j false k n = absurd (unknown id a g i j k n)
 
--- A row that reads as a packet holds the bytes of that packet, or offset 0 with a minus, and then what is dropped. The packet can be written.
-pub record Holds (row : List ℕ) (p : Packet) : Type 0 where
-  pub fitting : fits p ≡ true
-  pub meant : means p ≡ true
-  pub dropped : List ℕ
-  pub bytes : (row ≡ bytesOf p ++ dropped) ⊎ ((p ≡ Packet.G (pos 0)) × (row ≡ minusZero ++ dropped))
-
 pub written-read : (row : List ℕ) (p : Packet) → readPacket row ≡ PacketRead.Is p → Holds row p
 written-read row p h =
     let o = own (id row p h) (ds row p h) p (reads-body row p h) in
@@ -530,6 +520,91 @@ written-read row p h =
           (o .bytes);
     }
 
--- so writing it and reading it again gives the same packet
-pub read-again : (row : List ℕ) (p : Packet) → readPacket row ≡ PacketRead.Is p → (rest : List ℕ) → readPacket (bytesOf p ++ rest) ≡ PacketRead.Is p
-read-again row p h rest = read-written p (written-read row p h .fitting) (written-read row p h .meant) rest
+-- THE CALLS
+
+may-write : (p : Packet) (room : ℕ) → writePacket p room .number ≡ 0 → writeRefusal p room ≡ 0
+unfolding writePacket
+may-write p room = go (writeRefusal p room) (eqb (writeRefusal p room) 0) refl
+  where
+    go : (n : ℕ) (t : Bool) → eqb n 0 ≡ t → pick t (packetWritten 0 (length (bytesOf p))) (packetWritten n 0) .number ≡ 0 → n ≡ 0
+    go n true e h = eqb-true n 0 e
+    go n false e h = h
+
+-- a packet written into a row reads back from that row, whatever stood there
+pub read-back : (p : Packet) (row : List ℕ) → writePacket p (length row) .number ≡ 0 → readPacket (rowWritten p row) ≡ PacketRead.Is p
+unfolding rowWritten writeRefusal
+read-back p row e =
+    let z = may-write p (length row) e in
+    let a = quiet-first (not (fits p)) _ (given-zero (9 if not (fits p) ∷ 10 if not (means p) ∷ 14 if ltb (length row) (length (bytesOf p)) ∷ []) refl .0 z) in
+    let b = quiet-first (not (means p)) _ (a .1) in
+    simp (eq-eqb (writeRefusal p (length row)) 0 z)
+    (read-written p (not-false (fits p) (a .0)) (not-false (means p) (b .0)) (drop (length (bytesOf p)) row))
+
+-- each packet that is read can be written, into any row that has room for its bytes, and all of them are written
+pub write-read : (row : List ℕ) (p : Packet) → readPacket row ≡ PacketRead.Is p → (room : ℕ) → length (bytesOf p) ≤ room → writePacket p room ≡ packetWritten 0 (length (bytesOf p))
+unfolding writePacket writeRefusal
+write-read row p h room l = simp (written-read row p h .fitting, written-read row p h .meant, le-ltb room (length (bytesOf p)) l)
+
+same-size : length minusZero ≡ length (bytesOf (Packet.G (pos 0)))
+unfolding framed dataOf signOf ascii digits
+same-size = refl
+
+-- and the row from which it was read has that room
+pub room-read : (row : List ℕ) (p : Packet) → readPacket row ≡ PacketRead.Is p → length (bytesOf p) ≤ length row
+room-read row p h =
+    let o = written-read row p h in
+    ⊎-elim
+    (λ (e : row ≡ bytesOf p ++ o .dropped). omega (arith, ap length e ∙ length-append (bytesOf p) (o .dropped)))
+    (λ (e : (p ≡ Packet.G (pos 0)) × (row ≡ minusZero ++ o .dropped)).
+    omega (arith, ap length (e .1) ∙ length-append minusZero (o .dropped), same-size, ap (λ (q : Packet). length (bytesOf q)) (e .0)))
+    (o .bytes)
+
+-- A PACKET'S OWN BYTES: at most eleven, each below 256
+
+ascii-below : (ds : List ℕ) → below 10 ds ≡ true → below 256 (ascii ds) ≡ true
+unfolding ascii below
+ascii-below [] h = refl
+ascii-below (d ∷ ds) h =
+    let l : d < 10 = ltb-true d 10 (and-left (ltb d 10) (below 10 ds) h) in
+    simp (lt-ltb (48 + d) 256 (omega arith), ascii-below ds (and-right (ltb d 10) (below 10 ds) h))
+
+sign-letter-below : (z : ℤ) → ltb (signOf z) 256 ≡ true
+unfolding signOf
+sign-letter-below (pos n) = refl
+sign-letter-below (negsuc n) = refl
+
+format-letter-below : (f : Format) → ltb (letterOfFormat f) 256 ≡ true
+format-letter-below Format.A = refl
+format-letter-below Format.B = refl
+format-letter-below Format.C = refl
+format-letter-below Format.N = refl
+format-letter-below Format.X = refl
+
+modulation-letter-below : (m : Modulation) → ltb (letterOfModulation m) 256 ≡ true
+modulation-letter-below Modulation.M = refl
+modulation-letter-below Modulation.D = refl
+
+clock-letter-below : (c : ClockSource) → ltb (letterOfClock c) 256 ≡ true
+clock-letter-below ClockSource.External = refl
+clock-letter-below ClockSource.Internal = refl
+
+generator-letter-below : (g : Generator) → ltb (letterOfGenerator g) 256 ≡ true
+generator-letter-below Generator.B = refl
+generator-letter-below Generator.H = refl
+
+pub bytes-below : (p : Packet) → fits p ≡ true → below 256 (bytesOf p) ≡ true
+unfolding framed dataOf below
+bytes-below (Packet.A m) f = simp (lt-ltb (48 + m) 256 (omega (arith, leb-true m 7 f)))
+bytes-below (Packet.G z) f =
+    simp (sign-letter-below z, below-both 256 (ascii (digits 10 7 (natAbs z))) (0x17 ∷ []), ascii-below (digits 10 7 (natAbs z)) (digits-below 10 (lit< tt) 7 (natAbs z)))
+bytes-below (Packet.H a m) f = simp (format-letter-below a, modulation-letter-below m)
+bytes-below (Packet.I c) f = simp (clock-letter-below c)
+bytes-below (Packet.K g) f = simp (generator-letter-below g)
+
+pub bytes-few : (p : Packet) → length (bytesOf p) ≤ 11
+unfolding framed dataOf ascii digits
+bytes-few (Packet.A m) = lit≤ tt
+bytes-few (Packet.G z) = lit≤ tt
+bytes-few (Packet.H a m) = lit≤ tt
+bytes-few (Packet.I c) = lit≤ tt
+bytes-few (Packet.K g) = lit≤ tt

@@ -9,12 +9,11 @@ use native.Mathlib.Omega.{arith}
 use lib.Dec.{leb, ltb, eqb, lit<, leb·suc-suc, leb·suc-zero, eqb·suc-zero}
 use lib.ListN.{length, take, drop, getD}
 use lib.Seq.{ext-getD}
-use borrow.Author.Tests.{ltb-true, ltb-false, leb-true}
+use borrow.Author.Tests.{lt-ltb, le-leb, ltb-true, ltb-false, leb-true}
 use Rattle.wire.specs.Digits.{digits, num, below, packed, unpacked, TwoTaken}
 use Rattle.wire.specs.declared.digits.Split.{Split}
 use Rattle.wire.specs.Time.{ticksOfDay, hourOf, minuteOf, secondOf, fractionOf, tickAt}
-use Rattle.wire.specs.Words.{timeDigits, wordsOf, writable, decimal, field, dayIn, hourIn, minuteIn, secondIn, fractionIn, tickIn, inRange, digitsRefusal, readDigits, timeRead}
-use Rattle.wire.specs.Numbers.{given}
+use Rattle.wire.specs.Words.{timeDigits, wordsOf, wordsOrZero, writable, decimal, field, dayIn, hourIn, minuteIn, secondIn, fractionIn, tickIn, inRange, digitsRefusal, readDigits, timeRead}
 use Rattle.wire.proofs.digits.Laws.{and-left, and-right, and-assoc, and-true, below-at, below-both, mod-div, mod-mod-mul, digits-split, digits-mod-pow, num-append, written}
 
 -- what `writable` tests
@@ -23,6 +22,15 @@ unfolding writable
 writable-day day tick e =
     let f = and-right (leb 1 day) (leb day 366 && ltb tick ticksOfDay) e in
     (leb-true 1 day (and-left (leb 1 day) (leb day 366 && ltb tick ticksOfDay) e), leb-true day 366 (and-left (leb day 366) (ltb tick ticksOfDay) f))
+
+pub in-ranges : (day tick : ℕ) → 1 ≤ day → day ≤ 366 → tick < ticksOfDay → writable day tick ≡ true
+unfolding writable
+in-ranges day tick l h t = simp (le-leb 1 day l, le-leb day 366 h, lt-ltb tick ticksOfDay t)
+
+-- the words of what is within the ranges
+pub words-within : (day tick : ℕ) → 1 ≤ day → day ≤ 366 → tick < ticksOfDay → wordsOrZero day tick ≡ wordsOf day tick
+unfolding wordsOrZero
+words-within day tick l h t = simp (in-ranges day tick l h t)
 
 pub writable-tick : (day tick : ℕ) → writable day tick ≡ true → tick < ticksOfDay
 unfolding writable
@@ -262,13 +270,13 @@ module _ (ds : List ℕ) where
   range = inRange (dayIn ds) (hourIn ds) (minuteIn ds) (secondIn ds)
 
   pub read-bad : decimal ds ≡ false → readDigits ds ≡ timeRead 17 0 0
-  unfolding readDigits digitsRefusal given
+  unfolding readDigits digitsRefusal
   read-bad e = simp e
 
   pub read-outside : decimal ds ≡ true → range ≡ false → readDigits ds ≡ timeRead 11 0 0
-  unfolding readDigits digitsRefusal given
+  unfolding readDigits digitsRefusal
   read-outside e f = simp (e, f)
 
   pub read-done : decimal ds ≡ true → range ≡ true → readDigits ds ≡ timeRead 0 (dayIn ds) (tickIn ds)
-  unfolding readDigits digitsRefusal given
+  unfolding readDigits digitsRefusal
   read-done e f = simp (e, f)

@@ -1,7 +1,7 @@
 -- Time words, there and back. Words that were written are read as the same day and tick; words that are read are those that are written
 -- for what was read. So no two times of a year share words, and nothing that reads has a second meaning. By the laws of digits.
 -- Assumes nothing.
-use Prim.Native.Nat.{ℕ, zero, _+_, _*_, _/_, _%_, _≤_, _<_}
+use Prim.Native.Nat.{ℕ, _+_, _*_, _/_, _%_, _≤_, _<_}
 use mathlib.Core.Path.{_≡_, refl, sym, _∙_, ap}
 use mathlib.Core.Bool.{Bool, true, false, _&&_, not}
 use mathlib.Core.List.{List, [], _∷_, _++_}
@@ -9,12 +9,13 @@ use native.Mathlib.Omega.{arith}
 use lib.Dec.{leb, eqb, lit<, lit≤}
 use lib.ListN.{length, take, drop, replicate, length-drop}
 use lib.Seq.{length-take-le}
-use borrow.Author.Tests.{lt-ltb, le-leb, leb-true, eqb-true}
+use borrow.Author.Tests.{lt-ltb, le-leb, leb-true, eqb-true, not-false}
 use Rattle.wire.specs.declared.words.TimeRead.{TimeRead}
 use Rattle.wire.specs.Digits.{pick, digits, num, below, packed, unpacked}
-use Rattle.wire.specs.Numbers.{_if_, given}
+use Rattle.wire.specs.Numbers.{_if_}
+use Rattle.wire.proofs.numbers.Laws.{given-zero, quiet-first}
 use Rattle.wire.specs.Time.{ticksOfDay, hourOf, minuteOf, secondOf, fractionOf, tickAt}
-use Rattle.wire.specs.Words.{timeDigits, wordsOf, writable, decimal, field, dayIn, hourIn, minuteIn, secondIn, fractionIn, tickIn, inRange, digitsRefusal, readDigits, timeRead, readWords, zeroWords}
+use Rattle.wire.specs.Words.{timeDigits, wordsOf, writable, decimal, field, dayIn, hourIn, minuteIn, secondIn, fractionIn, tickIn, inRange, digitsRefusal, readDigits, timeRead, readWords, zeroWords, wordsOrZero, writeWords}
 use Rattle.wire.proofs.digits.Laws.{and-left, and-right, below-both, below-more, zeros, cut, digits-below, written, read-part, part-below, unpack-packed, pack-unpacked, unpacked-length}
 use Rattle.wire.proofs.time.Laws.{parts, hour-at, minute-at, second-at, fraction-at}
 use Rattle.wire.proofs.words.Laws.{writable-day, writable-tick, read-done}
@@ -146,12 +147,6 @@ module _ (ds : List ℕ) (l : length ds ≡ 20) (x : decimal ds ≡ true) (r : i
       simp (le-leb 1 (dayIn ds) (omega arith), le-leb (dayIn ds) 366 (omega arith), lt-ltb (tickIn ds) ticksOfDay (omega (arith, small)))
 
 -- what number 0 tells of the digits
-no-line : (s t : Bool) → given (17 if not s ∷ 11 if not t ∷ []) ≡ 0 → (s ≡ true) × (t ≡ true)
-unfolding given
-no-line true true e = (refl, refl)
-no-line true false e = absurd (omega arith)
-no-line false t e = absurd (omega arith)
-
 number-done : (n d t : ℕ) (b : Bool) → eqb n 0 ≡ b → pick b (timeRead 0 d t) (timeRead n 0 0) .number ≡ 0 → n ≡ 0
 number-done n d t true e h = eqb-true n 0 e
 number-done n d t false e h = h
@@ -162,7 +157,11 @@ module _ (ws : List ℕ) (l : length ws ≡ 5) (b : below 65536 ws ≡ true) (n 
 
   tested : (decimal ds ≡ true) × (inRange (dayIn ds) (hourIn ds) (minuteIn ds) (secondIn ds) ≡ true)
   unfolding readWords readDigits digitsRefusal
-  tested = no-line (decimal ds) (inRange (dayIn ds) (hourIn ds) (minuteIn ds) (secondIn ds)) (number-done (digitsRefusal ds) (dayIn ds) (tickIn ds) (eqb (digitsRefusal ds) 0) refl n)
+  tested =
+      let in-range : Bool = inRange (dayIn ds) (hourIn ds) (minuteIn ds) (secondIn ds) in
+      let q = given-zero (17 if not (decimal ds) ∷ 11 if not in-range ∷ []) refl .0 (number-done (digitsRefusal ds) (dayIn ds) (tickIn ds) (eqb (digitsRefusal ds) 0) refl n) in
+      let a = quiet-first (not (decimal ds)) _ q in
+      (not-false (decimal ds) (a .0), not-false in-range (quiet-first (not in-range) true (a .1) .0))
 
   twenty : length ds ≡ 20
   twenty = unpacked-length 16 (lit< tt) 4 ws ∙ ap (λ (k : ℕ). k * 4) l
@@ -183,13 +182,30 @@ module _ (ws : List ℕ) (l : length ws ≡ 5) (b : below 65536 ws ≡ true) (n 
   pub read-writable : writable (readWords ws .day) (readWords ws .tick .ticks) ≡ true
   read-writable = ap (λ (t : TimeRead). writable (t .day) (t .tick .ticks)) read-as ∙ again-writable ds twenty (tested .0) (tested .1)
 
--- no two times of a year share words
-pub words-differ : (d t d′ t′ : ℕ) → writable d t ≡ true → writable d′ t′ ≡ true → wordsOf d t ≡ wordsOf d′ t′ → (d ≡ d′) × (t ≡ t′)
+-- THE CALLS
+
+may-write : (day tick : ℕ) → writeWords day tick .number ≡ 0 → writable day tick ≡ true
+unfolding writeWords
+may-write day tick e = not-false (writable day tick) (quiet-first (not (writable day tick)) true (given-zero (11 if not (writable day tick) ∷ []) refl .0 e) .0)
+
+-- words that are written read back as the same day and tick of day
+pub read-back : (day tick : ℕ) → writeWords day tick .number ≡ 0 → readWords (writeWords day tick .words) ≡ timeRead 0 day tick
+unfolding writeWords wordsOrZero
+read-back day tick e = let w = may-write day tick e in simp w (read-written day tick w)
+
+-- words that read are written again as the same words
+pub write-back : (ws : List ℕ) → length ws ≡ 5 → below 65536 ws ≡ true → readWords ws .number ≡ 0
+    → writeWords (readWords ws .day) (readWords ws .tick .ticks) ≡ record { number = 0; words = ws }
+unfolding writeWords wordsOrZero
+write-back ws l b n = simp (read-writable ws l b n, written-read ws l b n)
+
+-- so no two times of a year are written as the same words
+pub words-differ : (d t d′ t′ : ℕ) → writeWords d t .number ≡ 0 → writeWords d′ t′ .number ≡ 0 → writeWords d t .words ≡ writeWords d′ t′ .words → (d ≡ d′) × (t ≡ t′)
 words-differ d t d′ t′ w w′ e =
-    let q : timeRead 0 d t ≡ timeRead 0 d′ t′ = sym (read-written d t w) ∙ ap readWords e ∙ read-written d′ t′ w′ in
+    let q : timeRead 0 d t ≡ timeRead 0 d′ t′ = sym (read-back d t w) ∙ ap readWords e ∙ read-back d′ t′ w′ in
     (ap (λ (r : TimeRead). r .day) q, ap (λ (r : TimeRead). r .tick .ticks) q)
 
 -- five zero words are no time
 pub zero-unread : readWords zeroWords .number ≡ 11
-unfolding readWords zeroWords readDigits digitsRefusal given decimal field inRange unpacked digits below num
+unfolding readWords readDigits digitsRefusal decimal field inRange unpacked digits below num
 zero-unread = refl

@@ -1,22 +1,21 @@
 -- `registers::write_refusal` meets its contract: each return is decided by the tests that led there.
 -- Assumes nothing.
 use borrow.Author.Tests.{lt-ltb, eq-eqb, ne-eqb, not-true, not-false}
-use Rattle.wire.specs.Numbers.{given}
 use Rattle.card.specs.Registers.{writeRefusal}
 use Rattle.card.proofs.registers.Laws.{write-2, write-3, write-0}
 use Rattle.card.proofs.registers.write_refusal.Statement.{statement}
 use Rattle.card.proofs.registers.write_refusal.Tie as tie
 
 returns : tie.Need-returns
-unfolding writeRefusal given
+unfolding writeRefusal
 returns c = simp (not-true (c .before .args .known) (c .if1 .taken))
 
 returns-2 : tie.Need-returns-2
-unfolding writeRefusal given
+unfolding writeRefusal
 returns-2 c = simp (not-false (c .before .before .args .known) (c .before .if1 .left), lt-ltb _ _ (c .if2 .taken))
 
 returns-3 : tie.Need-returns-3
-unfolding writeRefusal given
+unfolding writeRefusal
 returns-3 c = simp (not-false (c .before .before .before .args .known) (c .before .before .if1 .left), c .if3 .taken)
 
 returns-4 : tie.Need-returns-4

@@ -1,7 +1,6 @@
 -- `reset::reset_card` meets its contract: field by field.
 -- Assumes nothing.
 use mathlib.Core.Path.{refl}
-use Rattle.wire.specs.Words.{zeroWords}
 use borrow.Author.Needs.{needs}
 use Rattle.card.proofs.reset.reset_card.Statement.{statement}
 use Rattle.card.proofs.reset.reset_card.Tie as tie
@@ -10,7 +9,6 @@ empty-queue-requires : tie.Need-empty-queue-requires
 empty-queue-requires c κs = search needs
 
 returns : tie.Need-returns
-unfolding zeroWords
 returns c = rw (c .empty-queue .ensures) refl
 
 pub reset-card-spec : {M : Type 1} → statement M

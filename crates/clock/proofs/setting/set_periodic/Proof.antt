@@ -2,7 +2,6 @@
 -- Assumes nothing.
 use mathlib.Core.Path.{sym, _∙_}
 use borrow.Author.Tests.{not-true, not-false}
-use Rattle.wire.specs.Numbers.{given}
 use borrow.Author.Needs.{needs}
 use Rattle.clock.proofs.setting.set_periodic.Statement.{statement}
 use Rattle.clock.proofs.setting.set_periodic.Tie as tie
@@ -11,21 +10,18 @@ clock-fits-requires : tie.Need-clock-fits-requires
 clock-fits-requires c κs = search needs
 
 returns : tie.Need-returns
-unfolding given
 returns c = simp (sym (c .before .clock-fits .ensures) ∙ not-true _ (c .if1 .taken))
 
 are-dividers-requires : tie.Need-are-dividers-requires
 are-dividers-requires c κs = search needs
 
 returns-2 : tie.Need-returns-2
-unfolding given
 returns-2 c = simp (sym (c .before .before .before .clock-fits .ensures) ∙ not-false _ (c .before .before .if1 .left), sym (c .before .are-dividers .ensures) ∙ not-true _ (c .if2 .taken))
 
 kept-periodic-requires : tie.Need-kept-periodic-requires
 kept-periodic-requires c κs = sym (c .before .before .are-dividers .ensures) ∙ not-false _ (c .before .if2 .left)
 
 returns-3 : tie.Need-returns-3
-unfolding given
 returns-3 c =
     let q = c .before .before in
     let p = q .before .before in

@@ -31,7 +31,7 @@ returns-2 : tie.Need-returns-2
 returns-2 c =
     let l = c .before .before .before .before in
     let p = l .before .before in
-    answer.done _ _ _ _ _ _ (sym (p .before .pass-refusal .ensures) ∙ p .if1 .left) (l .list .ensures .0) (l .list .ensures .1) (c .clock-later .ensures)
+    answer.pass-answers _ _ _ _ _ _ (sym (p .before .pass-refusal .ensures) ∙ p .if1 .left) (l .list .ensures .0) (l .list .ensures .1) (c .clock-later .ensures)
 
 pub pass-spec : {M : Type 1} → statement M
 pass-spec =

@@ -7,18 +7,18 @@ use native.Mathlib.Omega.{arith}
 use lib.ListN.{length}
 use borrow.Author.Tests.{not-true, not-false}
 use Rattle.listing.specs.Listing.{heldIn}
-use Rattle.listing.proofs.feeding.Going.{Holds, Going, going-none, going-length, going-held, going-ended, goes-number, goes-room, stopped-early, stopped-late}
+use Rattle.listing.proofs.feeding.Going.{Keeping, Going, going-none, going-length, going-held, going-ended, goes-number, goes-room, stopped-early, stopped-late}
 use Rattle.listing.proofs.feeding.feed_held.Statement.{statement}
 use Rattle.listing.proofs.feeding.feed_held.Tie as tie
 
 abbrev Inv-loop : tie.InvT-loop
-Inv-loop input row₀ fresh card₀ held₀ number₀ written₀ i₀ row card held number written i = (bytes : List ℕ) → Holds bytes card₀ held₀ → Going bytes number₀ input row₀ row card held number written i
+Inv-loop input row₀ fresh card₀ held₀ number₀ written₀ i₀ row card held number written i = (bytes : List ℕ) → Keeping bytes card₀ held₀ → Going bytes number₀ input row₀ row card held number written i
 
 abbrev μ-loop : tie.MeasureT-loop
 μ-loop input row₀ fresh card₀ held₀ number₀ written₀ i₀ row card held number written i = length input - i
 
 -- the first card holds the bytes of the bench
-begun : (c : tie.After-refill Inv-loop μ-loop) → Holds (heldIn (c .before .before .before .before .before .args .bench .queue)) (c .refill .result) (c .before .before .before .before .before .args .bench .queue .fill)
+begun : (c : tie.After-refill Inv-loop μ-loop) → Keeping (heldIn (c .before .before .before .before .before .args .bench .queue)) (c .refill .result) (c .before .before .before .before .before .args .bench .queue .fill)
 begun c =
     let r = c .refill .ensures in
     record { card = r .card; bytes = r .bytes; count = sym (r .count); short = omega (arith, r .count, c .before .before .before .before .before .pre) }

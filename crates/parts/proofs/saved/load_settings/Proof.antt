@@ -1,7 +1,6 @@
 -- `saved::load_settings` meets its contract: five bytes are loaded as the bits of their number say.
 -- Assumes nothing.
 use borrow.Author.Tests.{ne-eqb}
-use Rattle.wire.specs.Numbers.{given}
 use Rattle.parts.specs.Saved.{savedRefusal, readSaved}
 use Rattle.parts.proofs.saved.Laws.{five-bytes}
 use borrow.Author.Needs.{needs}
@@ -9,7 +8,7 @@ use Rattle.parts.proofs.saved.load_settings.Statement.{statement}
 use Rattle.parts.proofs.saved.load_settings.Tie as tie
 
 returns : tie.Need-returns
-unfolding readSaved savedRefusal given
+unfolding readSaved savedRefusal
 returns c = simp (ne-eqb _ _ (c .if1 .taken))
 
 shared-slice-read-number-in : tie.Need-shared-slice-read-number-in

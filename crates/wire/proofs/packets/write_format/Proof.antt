@@ -5,7 +5,7 @@ use mathlib.Core.Path.{refl, sym, _∙_, ap₂}
 use mathlib.Core.List.{[], _∷_}
 use borrow.Author.Tests.{not-true, not-false}
 use Rattle.wire.specs.declared.packets.Packet.the-variants as Packet
-use Rattle.wire.specs.Packets.{fits, means, dataOf, framed}
+use Rattle.wire.specs.Packets.{dataOf, framed}
 use Rattle.wire.proofs.packets.Laws.{write-10, write-put}
 use borrow.Author.Needs.{needs}
 use Rattle.wire.proofs.packets.write_format.Statement.{statement}
@@ -15,7 +15,6 @@ pair-means-requires : tie.Need-pair-means-requires
 pair-means-requires c κs = search needs
 
 returns : tie.Need-returns
-unfolding fits means
 returns c = write-10 (Packet.H _ _) _ refl (sym (c .before .pair-means .ensures) ∙ not-true _ (c .if1 .taken))
 
 format-letter-requires : tie.Need-format-letter-requires
@@ -31,7 +30,7 @@ same-length : tie.Need-same-length
 same-length c = search needs
 
 returns-2 : tie.Need-returns-2
-unfolding fits means dataOf
+unfolding dataOf
 returns-2 c =
     let p = c .before .before .before .before .before .before in
     write-put (Packet.H _ _) _ _ (ap₂ (λ (f m : ℕ). framed 0x48 (f ∷ m ∷ [])) (c .before .before .before .before .format-letter .ensures) (c .before .before .before .modulation-letter .ensures))

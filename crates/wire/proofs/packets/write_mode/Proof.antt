@@ -3,21 +3,19 @@
 use mathlib.Core.Path.{refl, sym, _∙_}
 use borrow.Author.Tests.{le-leb, lt-leb, not-true, not-false}
 use Rattle.wire.specs.declared.packets.Packet.the-variants as Packet
-use Rattle.wire.specs.Packets.{fits, means, dataOf}
+use Rattle.wire.specs.Packets.{dataOf}
 use Rattle.wire.proofs.packets.Laws.{write-9, write-10, write-put}
 use borrow.Author.Needs.{needs}
 use Rattle.wire.proofs.packets.write_mode.Statement.{statement}
 use Rattle.wire.proofs.packets.write_mode.Tie as tie
 
 returns : tie.Need-returns
-unfolding fits
 returns c = write-9 _ _ (lt-leb _ _ (c .if1 .taken))
 
 mode-means-requires : tie.Need-mode-means-requires
 mode-means-requires c κs = search needs
 
 returns-2 : tie.Need-returns-2
-unfolding fits means
 returns-2 c = write-10 _ _ (le-leb _ _ (c .before .before .if1 .left)) (sym (c .before .mode-means .ensures) ∙ not-true _ (c .if2 .taken))
 
 add-put-one : tie.Need-add-put-one
@@ -30,7 +28,7 @@ same-length : tie.Need-same-length
 same-length c = search needs
 
 returns-3 : tie.Need-returns-3
-unfolding fits means dataOf
+unfolding dataOf
 returns-3 c =
     let p = c .before .before .before .before in
     write-put (Packet.A _) _ _ refl (le-leb _ _ (p .before .before .if1 .left)) (sym (p .before .mode-means .ensures) ∙ not-false _ (p .if2 .left)) _ _ (c .before .before .put-one .ensures)

@@ -9,7 +9,7 @@ use mir.ValLaws.{toZ-ofZ}
 use borrow.Author.Tests.{not-true, not-false}
 use Rattle.wire.specs.declared.packets.Packet.the-variants as Packet
 use Rattle.wire.specs.Digits.{digits}
-use Rattle.wire.specs.Packets.{fits, means, dataOf, framed, ascii, signOf, offsetFits}
+use Rattle.wire.specs.Packets.{fits, dataOf, framed, ascii, signOf, offsetFits}
 use Rattle.wire.proofs.packets.Laws.{write-9, write-put}
 use borrow.Author.Needs.{needs}
 use Rattle.wire.proofs.packets.write_offset.Statement.{statement}
@@ -19,7 +19,6 @@ offset-fits-requires : tie.Need-offset-fits-requires
 offset-fits-requires c κs = search needs
 
 returns : tie.Need-returns
-unfolding fits
 returns c =
     let s = c .before .before .before in
     let q = toZ-ofZ w32 (s .args .offset) (s .fits .offset) in
@@ -38,7 +37,7 @@ same-length : tie.Need-same-length
 same-length c = search needs
 
 returns-2 : tie.Need-returns-2
-unfolding fits means dataOf
+unfolding dataOf
 returns-2 c =
     let p = c .before .before .before .before .before .before in
     let s = p .before .before .before in

@@ -7,7 +7,7 @@ use mir.Val.{SFits}
 use mir.ValLaws.{toZ-ofZ}
 use mathlib.Core.List.{[], _∷_}
 use Rattle.wire.specs.declared.packets.Packet.the-variants as Packet
-use Rattle.wire.specs.Packets.{fits, means, dataOf, framed}
+use Rattle.wire.specs.Packets.{dataOf, framed}
 use Rattle.wire.proofs.packets.Laws.{write-put, write-case}
 use borrow.Author.Needs.{needs}
 use Rattle.wire.proofs.packets.write_packet.Statement.{statement}
@@ -75,7 +75,7 @@ same-length-4 : tie.Need-same-length-4
 same-length-4 c = search needs
 
 returns-4 : tie.Need-returns-4
-unfolding fits means dataOf
+unfolding dataOf
 returns-4 c =
     write-case _ _ _ (c .before .before .before .before .before .before .p4 .given .1) _ _
     (write-put (Packet.I _) _ _ (ap (λ (b : ℕ). framed 0x49 (b ∷ [])) (c .before .before .before .clock-letter .ensures)) refl refl _ _ (c .before .before .put-one .ensures))
@@ -84,7 +84,7 @@ same-length-5 : tie.Need-same-length-5
 same-length-5 c = search needs
 
 returns-5 : tie.Need-returns-5
-unfolding fits means dataOf
+unfolding dataOf
 returns-5 c =
     write-case _ _ _ (c .before .before .before .before .before .before .p5 .given .1) _ _
     (write-put (Packet.K _) _ _ (ap (λ (b : ℕ). framed 0x4B (b ∷ [])) (c .before .before .before .generator-letter .ensures)) refl refl _ _ (c .before .before .put-one2 .ensures))

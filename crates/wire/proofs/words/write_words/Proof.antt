@@ -2,8 +2,7 @@
 -- Assumes nothing.
 use mathlib.Core.Path.{sym, _∙_}
 use native.Mathlib.Omega.{arith}
-use Rattle.wire.specs.Numbers.{given}
-use Rattle.wire.specs.Words.{writeWords, wordsOrZero, zeroWords}
+use Rattle.wire.specs.Words.{writeWords, wordsOrZero}
 use Rattle.wire.proofs.words.Laws.{writable-day, writable-tick}
 use borrow.Author.Needs.{needs}
 use Rattle.wire.proofs.words.write_words.Statement.{statement}
@@ -19,11 +18,11 @@ pack-requires c κs =
     (omega arith, writable-tick _ _ w)
 
 returns : tie.Need-returns
-unfolding writeWords wordsOrZero given
+unfolding writeWords wordsOrZero
 returns c = simp (sym (c .before .before .is-writable .ensures) ∙ c .before .if1 .taken, c .pack .ensures)
 
 returns-2 : tie.Need-returns-2
-unfolding writeWords wordsOrZero given zeroWords
+unfolding writeWords wordsOrZero
 returns-2 c = simp (sym (c .before .is-writable .ensures) ∙ c .if1 .left)
 
 pub write-words-spec : {M : Type 1} → statement M

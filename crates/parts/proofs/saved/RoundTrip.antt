@@ -2,15 +2,15 @@
 -- By the laws of digits. Assumes nothing.
 use Prim.Native.Nat.{ℕ, zero, suc, _+_, _*_, _/_, _%_, _≤_, _<_}
 use mathlib.Core.Path.{_≡_, refl, sym, _∙_, ap}
-use mathlib.Core.Bool.{Bool, true, false, _&&_, not}
+use mathlib.Core.Bool.{Bool, true, _&&_, not}
 use mathlib.Core.List.{List, [], _∷_, _++_, append-assoc}
 use native.Mathlib.Omega.{arith}
 use lib.Dec.{leb, eqb, lit<, eqb·suc-zero}
 use lib.IntN.{ℤ, pos, negsuc, natAbs}
 use lib.ListN.{length, take, drop, replicate, length-drop}
-use borrow.Author.Tests.{leb-true, eqb-true}
+use borrow.Author.Tests.{leb-true, eqb-true, not-false}
 use Rattle.wire.specs.Digits.{digits, below, packed, unpacked}
-use Rattle.wire.specs.Numbers.{_if_, given}
+use Rattle.wire.proofs.numbers.Laws.{given-zero, quiet-first}
 use Rattle.wire.specs.declared.packets.Format.{Format}
 use Rattle.wire.specs.declared.packets.Format.the-variants as Format
 use Rattle.wire.specs.declared.packets.Modulation.{Modulation}
@@ -19,18 +19,11 @@ use Rattle.wire.specs.declared.packets.ClockSource.{ClockSource}
 use Rattle.wire.specs.declared.packets.ClockSource.the-variants as ClockSource
 use Rattle.wire.specs.declared.packets.Generator.{Generator}
 use Rattle.wire.specs.declared.packets.Generator.the-variants as Generator
-use Rattle.wire.proofs.digits.Laws.{and-left, and-right, zeros, cut, below-append, digits-length, digits-below, read-part, part-below, unpack-packed, pack-unpacked, unpacked-length}
+use Rattle.wire.proofs.digits.Laws.{and-left, and-right, and-both, zeros, cut, below-append, digits-length, digits-below, read-part, part-below, unpack-packed, pack-unpacked, packed-length, unpacked-length}
 use Rattle.parts.specs.declared.settings.Settings.{Settings}
 use Rattle.parts.specs.Settings.{settingsLawful}
-use Rattle.parts.specs.Saved.{formatNumber, modulationBit, clockBit, generatorBit, signBit, settingsBits, savedForm, bitsAt, formatOfNumber, modulationOf, clockOf, generatorOf, offsetOf, settingsIn, meaningful, savedRefusal}
+use Rattle.parts.specs.Saved.{formatNumber, modulationBit, clockBit, generatorBit, signBit, settingsBits, savedForm, bitsAt, formatOfNumber, modulationOf, clockOf, generatorOf, offsetOf, settingsIn, meaningful, savedLines, savedRefusal}
 use Rattle.parts.proofs.saved.Laws.{numberOf, number-bits, mode-small, size-small, format-below, modulation-below, clock-below, generator-below, sign-below, settings-at, meaningful-at}
-
--- what 0 tells of five bytes
-pub no-line : (s t : Bool) → given (19 if not (s && t) ∷ []) ≡ 0 → (s ≡ true) × (t ≡ true)
-unfolding given
-no-line true true e = (refl, refl)
-no-line true false e = absurd (omega arith)
-no-line false t e = absurd (omega arith)
 
 -- SAVED, THEN LOADED
 
@@ -111,8 +104,13 @@ module _ (s : Settings) (w : settingsLawful s ≡ true) where
 
   -- what was saved is not refused, and is loaded as the same settings
   pub load-saved : (savedRefusal (savedForm s) ≡ 0) × (settingsIn (unpacked 2 8 (savedForm s)) ≡ s)
-  unfolding savedRefusal given savedForm packed
+  unfolding savedRefusal savedForm packed
   load-saved = (simp (saved-bits, meaningful-back), ap settingsIn saved-bits ∙ settings-back)
+
+-- the form has five bytes
+pub form-five : (s : Settings) → length (savedForm s) ≡ 5
+unfolding savedForm
+form-five s = packed-length 2 8 5 (settingsBits s ++ replicate 6 0)
 
 -- LOADED, THEN SAVED
 
@@ -198,7 +196,9 @@ module _ (bs : List ℕ) (l : length bs ≡ 40) (h : below 2 bs ≡ true) (m : m
 module _ (bytes : List ℕ) (b : below 256 bytes ≡ true) (r : savedRefusal bytes ≡ 0) where
   tested : (eqb (length bytes) 5 ≡ true) × (meaningful (unpacked 2 8 bytes) ≡ true)
   unfolding savedRefusal
-  tested = no-line (eqb (length bytes) 5) (meaningful (unpacked 2 8 bytes)) r
+  tested =
+      let t : Bool = eqb (length bytes) 5 && meaningful (unpacked 2 8 bytes) in
+      and-both (eqb (length bytes) 5) (meaningful (unpacked 2 8 bytes)) (not-false t (quiet-first (not t) true (given-zero (savedLines bytes) refl .0 r) .0))
 
   five : length bytes ≡ 5
   five = eqb-true (length bytes) 5 (tested .0)
@@ -206,13 +206,18 @@ module _ (bytes : List ℕ) (b : below 256 bytes ≡ true) (r : savedRefusal byt
   forty : length (unpacked 2 8 bytes) ≡ 40
   forty = unpacked-length 2 (lit< tt) 8 bytes ∙ ap (λ (k : ℕ). k * 8) five
 
-  -- what is loaded is lawful, and is saved as the same five bytes
-  pub load-lawful : settingsLawful (settingsIn (unpacked 2 8 bytes)) ≡ true
-  load-lawful = lawful-in (unpacked 2 8 bytes) forty (unpacked-below 8 bytes) (tested .1)
-
+  -- what is loaded is saved as the same five bytes
   pub save-loaded : savedForm (settingsIn (unpacked 2 8 bytes)) ≡ bytes
   unfolding savedForm
   save-loaded =
       ap (packed 2 8 5) (bits-again (unpacked 2 8 bytes) forty (unpacked-below 8 bytes) (tested .1))
       ∙ ap (λ (k : ℕ). packed 2 8 k (unpacked 2 8 bytes)) (sym five)
       ∙ pack-unpacked 2 (lit< tt) 8 bytes b
+
+-- whatever passes the test of a load is lawful
+pub loaded-lawful : (bytes : List ℕ) → eqb (length bytes) 5 && meaningful (unpacked 2 8 bytes) ≡ true → settingsLawful (settingsIn (unpacked 2 8 bytes)) ≡ true
+unfolding meaningful
+loaded-lawful bytes e =
+    let m = and-both (eqb (length bytes) 5) (meaningful (unpacked 2 8 bytes)) e .1 in
+    let a = and-both (leb (bitsAt 3 3 (unpacked 2 8 bytes)) 4) _ m in
+    and-both (settingsLawful (settingsIn (unpacked 2 8 bytes))) _ (a .1) .0

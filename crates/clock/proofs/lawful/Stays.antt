@@ -9,23 +9,24 @@ use lib.Dec.{leb, ltb}
 use Rattle.wire.specs.Numbers.{given}
 use Rattle.wire.specs.Time.{tickAt}
 use Rattle.wire.proofs.digits.Laws.{and-both}
 use Rattle.clock.specs.declared.time.Time.{Time}
+use Rattle.clock.specs.declared.clock.Strobe.the-variants as Strobe
 use Rattle.clock.specs.declared.clock.Periodic.{Periodic}
 use Rattle.clock.specs.declared.clock.Periodic.the-variants as Periodic
 use Rattle.clock.specs.declared.clock.Clock.{Clock}
 use Rattle.clock.specs.declared.setting.StrobeAt.{StrobeAt}
 use Rattle.clock.specs.declared.setting.StrobeAt.the-variants as StrobeAt
 use Rattle.clock.specs.declared.setting.Dividers.{Dividers}
 use Rattle.clock.specs.declared.setting.Dividers.the-variants as Dividers
 use Rattle.clock.specs.Time.{instant, daysIn, later, timeLawful}
 use Rattle.clock.specs.Falling.{strobeLawful, periodicLawful}
 use Rattle.clock.specs.Clocks.{clockLawful, withStrobe, withPeriodic}
 use Rattle.clock.specs.Setting.{timeOfDay, dateFits, timeSet, strobeFits, strobeKept, dividersFit, periodicKept}
 use Rattle.clock.specs.Waiting.{passed, countLater, clockLater, waitLines}
 use Rattle.clock.proofs.time.Laws.{in-range, time-lawful, later-add, later-proper, later-year, later-lawful}
 use Rattle.clock.proofs.lawful.Laws.{Parts, parts, whole}
 use Rattle.clock.proofs.waiting.Laws.{passes}
 use Rattle.clock.proofs.waiting.Answer.{Accepted, accepted}
 
 -- ---- waiting
 
@@ -109,3 +110,12 @@ module _ (c : Clock) (h : clockLawful c ≡ true) where
 
   pub sets-periodic : (d : Dividers) → dividersFit d ≡ true → clockLawful (withPeriodic c (periodicKept d)) ≡ true
   sets-periodic d e = whole _ (record { time = p .time; strobe = p .strobe; periodic = periodic-lawful d e })
+
+-- the clock of a reset card, and the time of a fresh one
+pub off-lawful : (t : Time) → timeLawful t ≡ true → clockLawful (record { time = t; strobe = Strobe.Off; periodic = Periodic.Off }) ≡ true
+unfolding strobeLawful periodicLawful
+off-lawful t e = whole _ (record { time = e; strobe = refl; periodic = refl })
+
+pub first-lawful : timeLawful (instant 1 1 0) ≡ true
+unfolding timeLawful daysIn
+first-lawful = refl

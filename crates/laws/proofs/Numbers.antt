@@ -1,0 +1,159 @@
+-- Every number of every call is that of its table of lines, and so it is given exactly if its line holds and no line above it does, and 0 exactly if none holds.
+-- Assumes nothing.
+use Prim.Native.Nat.{ℕ}
+use mathlib.Core.Path.{_≡_, refl, sym, ap, _∙_}
+use mathlib.Core.Bool.{Bool, true, false, _&&_, not}
+use mathlib.Core.List.{List, [], _∷_, _++_}
+use mathlib.Core.Logic.{_↔_}
+use lib.Dec.{eqb}
+use lib.ListN.{length}
+use borrow.Author.Tests.{eqb-true}
+use Rattle.wire.specs.Digits.{pick}
+use Rattle.wire.specs.Numbers.{Line, _if_, given, quiet, absent}
+use Rattle.wire.proofs.numbers.Laws.{given-if, given-only-if, given-zero, given-append}
+use Rattle.wire.proofs.packets.Read.{packet-numbered}
+use Rattle.parts.specs.Interrupts.{lineUp}
+use Rattle.parts.specs.Pending.{bit}
+use Rattle.parts.specs.Queues.{queued}
+use Rattle.card.specs.declared.card.Card.{Card}
+use Rattle.card.specs.declared.card.Answer.{Answer}
+use Rattle.card.specs.declared.registers.Value.{Value}
+use Rattle.card.specs.declared.registers.InterruptLine.{InterruptLine}
+use Rattle.card.specs.declared.waiting.WaitedCard.{WaitedCard}
+use Rattle.card.specs.Cards.{answer, granted}
+use Rattle.card.specs.Lawful.{lawful}
+use Rattle.card.specs.Packets.{ackLines, ackRefusal, acknowledged}
+use Rattle.card.specs.Registers
+use Rattle.card.specs.Registers.{readRefusal, readRegister, writeLines, writeRefusal, writeRegister, written, lineRefusal}
+use Rattle.card.specs.Setting
+use Rattle.card.specs.Waiting
+use Rattle.card.specs.Waiting.{waitRefusal, waited}
+use Rattle.card.specs.Reset
+use Rattle.card.specs.Saved
+use Rattle.card.specs.Saved.{saveRefusal}
+use Rattle.laws.specs.Calls.{Call, number}
+use Rattle.laws.specs.Refusals.{lines}
+use Rattle.laws.proofs.Outcomes.{by}
+
+-- ---- numbers that a choice gives
+
+-- 0 if the refusal is 0, else the refusal
+zero-or : (n : ℕ) (t : Bool) → eqb n 0 ≡ t → pick t 0 n ≡ n
+zero-or n true e = sym (eqb-true n 0 e)
+zero-or n false e = refl
+
+-- the number of an answer that is a choice between two
+read-number : (t : Bool) (a b : Value) → pick t a b .number ≡ pick t (a .number) (b .number)
+read-number true a b = refl
+read-number false a b = refl
+
+answer-number : (t : Bool) (a b : Answer) → pick t a b .number ≡ pick t (a .number) (b .number)
+answer-number true a b = refl
+answer-number false a b = refl
+
+line-number : (t : Bool) (a b : InterruptLine) → pick t a b .number ≡ pick t (a .number) (b .number)
+line-number true a b = refl
+line-number false a b = refl
+
+wait-number : (t : Bool) (a b : WaitedCard) → pick t a b .waited .number ≡ pick t (a .waited .number) (b .waited .number)
+wait-number true a b = refl
+wait-number false a b = refl
+
+-- ---- registers
+
+module _ (c : Card) (reg v : ℕ) where
+  abbrev packet : List Line
+  packet = pick (eqb reg 12 && bit 128 v) (ackLines (c .queue)) []
+
+  -- no packet is read by another register
+  no-packet : eqb reg 12 ≡ false → 0 ≡ given packet
+  no-packet e = simp e
+
+  at-other : (k : ℕ) → eqb k 12 ≡ false → eqb reg k ≡ true → 0 ≡ given packet
+  at-other k d e = no-packet (ap (λ (r : ℕ). eqb r 12) (eqb-true reg k e) ∙ d)
+
+  at-ack : eqb reg 12 ≡ true → acknowledged c v .number ≡ given packet
+  unfolding acknowledged ackRefusal
+  at-ack e = simp e (answer-number (bit 128 v) _ _ ∙ go (bit 128 v))
+    where
+      go : (t : Bool) → pick t (given (ackLines (c .queue))) 0 ≡ given (pick t (ackLines (c .queue)) [])
+      go true = refl
+      go false = refl
+
+  written-number : written c reg v .number ≡ given packet
+  unfolding written
+  written-number =
+      by Gives (eqb reg 0) (at-other 0 refl)
+      (λ e0. by Gives (eqb reg 11) (at-other 11 refl)
+      (λ e11. by Gives (eqb reg 12) at-ack
+      (λ e12. by Gives (eqb reg 13) (λ e. no-packet e12) (λ e. no-packet e12))))
+    where
+      Gives : Answer → Type 0
+      Gives a = a .number ≡ given packet
+
+  write-number : writeRegister c reg v .number ≡ given (writeLines (lawful c) reg (c .queue .fill) ++ packet)
+  unfolding writeRegister writeRefusal
+  write-number =
+      answer-number (eqb (given (writeLines (lawful c) reg (c .queue .fill))) 0) (written c reg v) (answer c (given (writeLines (lawful c) reg (c .queue .fill))))
+      ∙ ap (λ (n : ℕ). pick (eqb (given (writeLines (lawful c) reg (c .queue .fill))) 0) n (given (writeLines (lawful c) reg (c .queue .fill)))) written-number
+      ∙ sym (given-append (writeLines (lawful c) reg (c .queue .fill)) packet refl)
+
+read-gives : (c : Card) (reg : ℕ) → readRegister c reg .number ≡ readRefusal (lawful c) reg
+unfolding readRegister
+read-gives c reg = read-number (eqb (readRefusal (lawful c) reg) 0) _ _ ∙ zero-or (readRefusal (lawful c) reg) (eqb (readRefusal (lawful c) reg) 0) refl
+
+wait-gives : (c : Card) (n room : ℕ) → Waiting.wait c n room .waited .number ≡ waitRefusal c n room
+unfolding Waiting.wait
+wait-gives c n room = wait-number (eqb (waitRefusal c n room) 0) _ _ ∙ zero-or (waitRefusal c n room) (eqb (waitRefusal c n room) 0) refl
+
+line-gives : (c : Card) (t : Bool) → lawful c ≡ t → Registers.line c .number ≡ given (18 if not (lawful c) ∷ [])
+unfolding Registers.line lineRefusal
+line-gives c true e = simp e (line-number (lineUp (c .interrupts)) _ _ ∙ same (lineUp (c .interrupts)))
+  where
+    same : (t : Bool) → _≡_ {A = ℕ} (pick t 0 0) 0
+    same true = refl
+    same false = refl
+line-gives c false e = simp e
+
+-- ---- all calls
+
+pub number-given : (k : Call) (c : Card) → number k c ≡ given (lines k c)
+unfolding number Setting.setTime Setting.setStrobe Setting.setPeriodic Registers.edge Reset.reset Saved.load saveRefusal granted readRefusal waitRefusal
+number-given (Call.setTime year day hour minute second) c = refl
+number-given (Call.read reg) c = read-gives c reg
+number-given (Call.write reg v) c = write-number c reg v
+number-given (Call.edge falling) c = refl
+number-given Call.line c = line-gives c (lawful c) refl
+number-given (Call.setStrobe s) c = refl
+number-given (Call.setPeriodic d) c = refl
+number-given (Call.wait n row) c = wait-gives c n (length row)
+number-given Call.reset c = refl
+number-given (Call.save row) c = refl
+number-given (Call.load bytes) c = refl
+
+-- no line has the number 0
+numbered : (k : Call) (c : Card) → absent 0 (lines k c) ≡ true
+numbered (Call.setTime year day hour minute second) c = refl
+numbered (Call.read reg) c = refl
+numbered (Call.write reg v) c = by (λ (ls : List Line). absent 0 ls ≡ true) (eqb reg 12 && bit 128 v) (λ e. packet-numbered (queued (c .queue))) (λ e. refl)
+numbered (Call.edge falling) c = refl
+numbered Call.line c = refl
+numbered (Call.setStrobe s) c = refl
+numbered (Call.setPeriodic d) c = refl
+numbered (Call.wait n row) c = refl
+numbered Call.reset c = refl
+numbered (Call.save row) c = refl
+numbered (Call.load bytes) c = refl
+
+-- 0 is given exactly if no line holds
+pub done-exactly-if : (k : Call) (c : Card) → number k c ≡ 0 ↔ quiet (lines k c) ≡ true
+done-exactly-if k c =
+    let z = given-zero (lines k c) (numbered k c) in
+    (λ e. z .0 (sym (number-given k c) ∙ e), λ q. number-given k c ∙ z .1 q)
+
+-- and any other number exactly if its line holds and no line above it does, where no other line of the table has that number
+pub given-exactly-if : (k : Call) (c : Card) (n : ℕ) (above below : List Line) (t : Bool) → lines k c ≡ above ++ (n if t ∷ below)
+    → eqb n 0 ≡ false → absent n above ≡ true → absent n below ≡ true → number k c ≡ n ↔ ((t ≡ true) × (quiet above ≡ true))
+given-exactly-if k c n above below t l z a b =
+    let g : number k c ≡ given (above ++ (n if t ∷ below)) = number-given k c ∙ ap given l in
+    (λ e. given-only-if n z below b t above a (sym g ∙ e), λ h. g ∙ ap (λ (s : Bool). given (above ++ (n if s ∷ below))) (h .0) ∙ given-if n above below (h .1))
