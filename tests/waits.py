@@ -10,10 +10,11 @@ A line of stdin is what is to be said, a bar, and a call: a letter and decimal n
     s MS                   strobe each second      a HOUR MINUTE SECOND MS         strobe daily
     o                      strobe off              r REGISTER VALUE                writes a register
     e                      a rising edge           x                               makes the card one that breaks a range
-    w PLACES TICKS         waits, with so many of ten places lent, each of which holds 7 before
+    w PLACES TICKS         waits by value, with so many of ten places lent, each of which holds 7 before
+    i PLACES TICKS         waits in place, of a card that is lent, likewise
 
 A wait writes its number, the ticks passed, the records written, a colon, all ten places, a semicolon, year, day and tick of day, the count (`-` where the output is
-off) and the pending bits. A line with no call is said alone.
+off) and the pending bits. A line with no call is said alone. Every case is made by value, and then in place.
 
 What a wait must write is found by going through the window tick by tick, as the page has it; nothing of crates/ is read.
 """
@@ -116,6 +117,7 @@ class Script:
 
     def __init__(self):
         self.asked, self.written, self.card = [], [], Card()
+        self.way = "w"
 
     def call(self, letter, *numbers):
         self.asked.append("|" + " ".join([letter, *map(str, numbers)]))
@@ -172,7 +174,7 @@ class Script:
     def wait(self, places, ticks, words=""):
         """Gives the ticks passed, so that a chain can go on with the rest."""
         lead = f"{words or 'wait'} {ticks}, {places} places: "
-        self.asked.append(f"{lead}|w {places} {ticks}")
+        self.asked.append(f"{lead}|{self.way} {places} {ticks}")
         number, passed, records = self.card.wait(places, ticks)
         c = self.card
         row = "".join(f" {place}" for place in (records + [UNTOUCHED] * PLACES)[:PLACES])
@@ -354,8 +356,11 @@ def pending(s):
 
 def script():
     s = Script()
-    for part in (examples, chains, ends, last_ticks, refusals, strobes, dividers, pending):
-        part(s)
+    for way, words in (("w", "BY VALUE"), ("i", "IN PLACE")):
+        s.way = way
+        s.say(words)
+        for part in (examples, chains, ends, last_ticks, refusals, strobes, dividers, pending):
+            part(s)
     return s
 
 

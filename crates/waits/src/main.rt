@@ -8,7 +8,9 @@ use card::setting::set_periodic;
 use card::setting::set_strobe;
 use card::setting::set_time;
 use card::waiting::Waited;
+use card::waiting::WaitedCard;
 use card::waiting::wait;
+use card::waiting::wait_in_place;
 use clock::clock::Clock;
 use clock::clock::Periodic;
 use clock::setting::Dividers;
@@ -18,6 +20,9 @@ use libc::STDIN_FILENO;
 use libc::STDOUT_FILENO;
 use wire::time::Ticks;
 ghost use Prim.Native.Nat.{_≤_};
+ghost use mathlib.Core.Path.{_≡_};
+ghost use lib.ListN.{length};
+ghost use Rattle.card.specs.Waiting.{wait, rowWaited};
 
 // What stands in a place before a wait: no record is 7, which would be one of no ticks.
 const UNTOUCHED: u64 = 7;
@@ -65,6 +70,12 @@ fn short_at(text: &[u8], place: usize) -> u16 {
 
 fn long_at(text: &[u8], place: usize) -> u32 {
     (number_at(text, place) % 4_294_967_296) as u32
+}
+
+fn ticks_at(text: &[u8], place: usize) -> Ticks {
+    Ticks {
+        ticks: number_at(text, place),
+    }
 }
 
 // Places to lend, of the ten that there are.
@@ -202,21 +213,50 @@ fn put_card(card: Card) {
     put(card.interrupts.pending as u64, b'\n');
 }
 
-// Waits, tells, and goes on with the card that is left.
-fn after_wait(card: Card, text: &[u8]) -> Card {
-    let ticks = Ticks {
-        ticks: number_at(text, 2),
-    };
-    let places = places_at(text, 1);
-    let mut row = [UNTOUCHED; 10];
-    let from: usize = 0;
-    let w = wait(card, ticks, &mut row[from..places]);
+// Tells of a wait, and goes on with the card that is left.
+fn told(w: WaitedCard, row: &[u64; 10]) -> Card {
     let waited = w.waited;
     let c = w.card;
     put_answer(waited);
-    put_row(&row);
+    put_row(row);
     put_card(c);
     c
+}
+
+// THE WAITS
+
+fn after_wait(card: Card, text: &[u8]) -> Card {
+    let places = places_at(text, 1);
+    let mut row = [UNTOUCHED; 10];
+    let from: usize = 0;
+    let w = wait(card, ticks_at(text, 2), &mut row[from..places]);
+    told(w, &row)
+}
+
+// The card and the answer of a wait in place, as a wait by value gives them.
+fn beside(card: Card, waited: Waited) -> WaitedCard
+    ensures { λ r. ⌜ (r .card ≡ card) × (r .waited ≡ waited) ⌝ }
+{
+    WaitedCard {
+        card: card,
+        waited: waited,
+    }
+}
+
+// The wait in place, of a card that is lent to it: it gives what the wait by value gives.
+fn in_place(mut card: Card, ticks: Ticks, row: &mut [u64]) -> WaitedCard
+    ensures { λ r. ⌜ (r ≡ wait card (ticks .ticks) (length (now (row .entry)))) × (now (row .exit) ≡ rowWaited card (ticks .ticks) (now (row .entry))) ⌝ }
+{
+    let waited = wait_in_place(&mut card, ticks, row);
+    beside(card, waited)
+}
+
+fn after_wait_in_place(card: Card, text: &[u8]) -> Card {
+    let places = places_at(text, 1);
+    let mut row = [UNTOUCHED; 10];
+    let from: usize = 0;
+    let w = in_place(card, ticks_at(text, 2), &mut row[from..places]);
+    told(w, &row)
 }
 
 // THE LINES
@@ -241,6 +281,7 @@ fn called(call: u8, card: Card, text: &[u8]) -> Card {
         b'e' => with_edge(card),
         b'x' => torn(card),
         b'w' => after_wait(card, text),
+        b'i' => after_wait_in_place(card, text),
         _ => set(call, card, text),
     }
 }

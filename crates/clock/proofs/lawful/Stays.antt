@@ -37,6 +37,10 @@ earlier-lawful p n t h e y =
     let g : later p t .year ≤ later (n - p) (later p t) .year = later-year (n - p) (later p t) (later-proper p t (in-range t e .proper)) in
     later-lawful p t e (omega (arith, ap (λ (u : Time). u .year) f))
 
+-- any count taken modulo the product of its dividers
+every-lawful : (x n1 n2 : ℕ) → leb 2 n1 ≡ true → leb 2 n2 ≡ true → 0 < n1 * n2 → (leb 2 n1 && (leb 2 n2 && ltb (x % (n1 * n2)) (n1 * n2))) ≡ true
+every-lawful x n1 n2 a b l = simp (a, b, lt-ltb (x % (n1 * n2)) (n1 * n2) (mod-lt x l))
+
 count-lawful : (p : ℕ) (q : Periodic) → periodicLawful q ≡ true → periodicLawful (countLater p q) ≡ true
 unfolding periodicLawful countLater
 count-lawful p Periodic.Off e = refl
@@ -44,7 +48,7 @@ count-lawful p (Periodic.Every n1 n2 count) e =
     let a = and-both (leb 2 n1) (leb 2 n2 && ltb count (n1 * n2)) e in
     let b = and-both (leb 2 n2) (ltb count (n1 * n2)) (a .1) in
     let l : count < n1 * n2 = ltb-true count (n1 * n2) (b .1) in
-    simp (a .0, b .0, lt-ltb ((count + p) % (n1 * n2)) (n1 * n2) (mod-lt (count + p) (omega arith)))
+    every-lawful _ n1 n2 (a .0) (b .0) (omega arith)
 
 pub waits : (c : Clock) (n room : ℕ) → clockLawful c ≡ true → given (waitLines c n room) ≡ 0 → clockLawful (clockLater (passed c n room) c) ≡ true
 unfolding clockLater
