@@ -1,4 +1,4 @@
-// Waiting: every edge of a window, once, in order.
+// Waiting: every fall of a window, once, in order.
 use crate::clock::Clock;
 use crate::clock::Periodic;
 use crate::falling::Source;

@@ -2,28 +2,35 @@
 -- this holds of it too. Assumes nothing.
 use Prim.Native.Nat.{ℕ, pred, _+_, _-_, _*_, _/_, _≤_, _<_}
 use mathlib.Core.Path.{_≡_, refl, sym, _∙_, ap, subst}
+use mathlib.Core.Bool.{not}
 use mathlib.Core.List.{List, _++_}
+use mathlib.Core.Logic.{_↔_}
 use native.Mathlib.Omega.{arith}
 use lib.ListN.{length, take, drop, getD}
-use lib.Seq.{take-at}
+use lib.Seq.{take-at, drop-at}
+use borrow.Author.Tests.{not-false}
+use Rattle.wire.proofs.numbers.Laws.{given-zero, quiet-first}
 use Rattle.clock.specs.declared.clock.Clock.{Clock}
 use Rattle.clock.specs.Falling.{falls}
-use Rattle.clock.specs.Waiting.{records, listed, passed, fell, movedOn, clockLater, Stands}
+use Rattle.clock.specs.Waiting.{records, listed, passed, fell, movedOn, clockLater, waitLines, Stands}
 use Rattle.clock.proofs.waiting.Laws.{every-fall, exact, rising, once, listed-passed, passes, Stops, stops}
+use Rattle.clock.proofs.waiting.Answer.{accepted}
 use Rattle.clock.proofs.waiting.Resume.{year-left, lists-on, passes-on, no-ticks}
 use Rattle.card.specs.declared.card.Card.{Card}
 use Rattle.card.specs.declared.waiting.Waited.{Waited}
 use Rattle.card.specs.declared.waiting.WaitedCard.{WaitedCard}
+use Rattle.card.specs.Lawful.{lawful}
 use Rattle.card.specs.Waiting.{cardAfter, waitRefusal, waited, wait, rowWaited}
 use Rattle.card.proofs.waiting.Laws.{goes, wait-is, row-is, clock-after, card-continues, card-stays}
-use Rattle.laws.specs.Calls.{Call, after}
-use Rattle.laws.specs.Demand.{Asked, ticksPassed, recordsWritten, front, Lists, Early, leftCard, leftTicks, Continues, Nothing}
+use Rattle.laws.specs.Calls.{Call, after, number}
+use Rattle.laws.specs.Demand.{Asked, ticksPassed, recordsWritten, front, Lists, Leaves, Early, leftCard, leftTicks, Continues, Nothing}
 use Rattle.laws.proofs.Keeps.{keeps}
+use Rattle.laws.proofs.Numbers.{done-exactly-if}
 
 -- ---- what a wait that is asked for answers
 
 module _ (c : Card) (n room : ℕ) (h : Asked c n room) where
-  accepts : waitRefusal c n room ≡ 0
+  pub accepts : waitRefusal c n room ≡ 0
   accepts = goes c n room (h .known) (record { ticks = h .day; places = h .place; year = h .year })
 
   told : wait c n room .waited ≡ waited 0 (passed (c .clock) n room) (length (listed (c .clock) n room))
@@ -46,7 +53,7 @@ module _ (c : Card) (n : ℕ) (row : List ℕ) (h : Asked c n (length row)) wher
   abbrev xs : List ℕ
   xs = listed (c .clock) n (length row)
 
-  front-listed : front c n row ≡ xs
+  pub front-listed : front c n row ≡ xs
   front-listed =
       ap (λ (k : ℕ). take k (rowWaited c n row)) (written-is c n (length row) h)
       ∙ ap (take (length xs)) (row-is c n row (accepts c n (length row) h))
@@ -69,6 +76,16 @@ module _ (c : Card) (n : ℕ) (row : List ℕ) (h : Asked c n (length row)) wher
         once = subst (λ (rs : List ℕ). (i j : ℕ) → i < length rs → j < length rs → getD rs i 0 / 8 ≡ getD rs j 0 / 8 → i ≡ j) f (once k p);
       }
 
+  pub leaves : Leaves c n row
+  leaves =
+      let k = accepts c n (length row) h in
+      record {
+        places =
+            ap (λ (j : ℕ). drop j (rowWaited c n row)) (written-is c n (length row) h) ∙ ap (drop (length xs)) (row-is c n row k)
+            ∙ drop-at xs (drop (length xs) row) (length xs) refl ∙ ap (λ (j : ℕ). drop j row) (sym (written-is c n (length row) h));
+        clock = clock-is c n (length row) h ∙ ap (λ (p : ℕ). clockLater p (c .clock)) (sym (passed-is c n (length row) h));
+      }
+
   pub early : ticksPassed c n (length row) < n → Early c n row
   early l =
       let e = passed-is c n (length row) h in
@@ -81,6 +98,16 @@ module _ (c : Card) (n : ℕ) (row : List ℕ) (h : Asked c n (length row)) wher
         full = written-is c n (length row) h ∙ s .full;
         last = ap (λ (rs : List ℕ). getD rs (pred (length row)) 0 / 8) front-listed ∙ s .last ∙ sym e;
       }
+
+-- a wait is accepted exactly if it is of this kind
+pub accepted-exactly-if : (c : Card) (n : ℕ) (row : List ℕ) → number (Call.wait n row) c ≡ 0 ↔ Asked c n (length row)
+unfolding number
+accepted-exactly-if c n row = (
+  λ e. let q = quiet-first (not (lawful c)) _ (done-exactly-if (Call.wait n row) c .0 e) in
+      let a = accepted (c .clock) n (length row) (given-zero (waitLines (c .clock) n (length row)) refl .1 (q .1)) in
+      record { known = not-false (lawful c) (q .0); day = a .ticks; year = a .year; place = a .places },
+  λ h. ap (λ (w : Waited). w .number) (told c n (length row) h),
+)
 
 -- a wait above 0 passes at least one tick, and none passes more than was asked for
 pub some-pass : (c : Card) (n room : ℕ) → Asked c n room → (ticksPassed c n room ≤ n) × (0 < n → 1 ≤ ticksPassed c n room)

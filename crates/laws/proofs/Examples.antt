@@ -9,7 +9,7 @@ use lib.ListN.{length, drop}
 use Rattle.wire.specs.Digits.{digits, num, below, packed, unpacked}
 use Rattle.wire.specs.Time.{hourOf, minuteOf, secondOf, fractionOf, tickAt}
 use Rattle.wire.specs.Words.{wordsOf, writable, wordsOrZero, writeWords, timeDigits, readWords, readDigits, digitsRefusal, decimal, field, inRange}
-use Rattle.wire.specs.Packets.{readPacket, packetRefusal, frameLines, bodyLines, has, placeOf, bodyOf, kindsOf, ofKinds, meaning, offsetOf, values, formatOf, modulationOf, bytesOf, framed, dataOf, signOf, ascii, fits, means}
+use Rattle.wire.specs.Packets.{readPacket, packetRefusal, frameLines, bodyLines, has, placeOf, bodyOf, kindsOf, ofKinds, meaning, offsetOf, asciiValues, formatOf, modulationOf, bytesOf, framed, dataOf, signOf, ascii, fits, means}
 use Rattle.wire.specs.declared.packets.Format.the-variants as Format
 use Rattle.wire.specs.declared.packets.Modulation.the-variants as Modulation
 use Rattle.wire.specs.declared.packets.Packet.{Packet}
@@ -25,9 +25,10 @@ use Rattle.card.specs.Registers.{writeRegister}
 use Rattle.card.specs.Reset.{freshCard}
 use Rattle.card.proofs.saved.Calls.{saves, row-is}
 use Rattle.laws.specs.Calls.{Call, after, afterAll, fed}
-use Rattle.laws.specs.Examples.{puts, pageSettings, pageCalls, page, Wait, Example, Holds, waits, Each}
+use Rattle.laws.specs.Each.{Each}
+use Rattle.laws.specs.Examples.{puts, pageSettings, pageCalls, page, Wait, Example, Stated, waits}
 use Rattle.laws.proofs.Fed.{fed-packet}
-use Rattle.laws.proofs.Keeps.{fresh-lawful, fresh-queue, keeps-all}
+use Rattle.laws.proofs.Keeps.{fresh-lawful, fresh-queue, fresh-all, keeps-all}
 use Rattle.laws.proofs.Waits.{starred}
 
 -- ---- settings set by packets
@@ -70,18 +71,19 @@ page-form : savedForm pageSettings ≡ 0x06 ∷ 0x00 ∷ 0x18 ∷ 0x6A ∷ 0x00 
 unfolding savedForm settingsBits digits num packed
 page-form = refl
 
-page-saved : Holds (Example.saved pageSettings pageCalls (0x06 ∷ 0x00 ∷ 0x18 ∷ 0x6A ∷ 0x00 ∷ []))
+page-saved : Stated (Example.saved pageSettings pageCalls (0x06 ∷ 0x00 ∷ 0x18 ∷ 0x6A ∷ 0x00 ∷ []))
 page-saved = (
+  fresh-all pageCalls,
   page-set,
   λ c l e row h. (saves c (length row) l h, row-is c row (saves c (length row) l h) ∙ ap (λ (bs : List ℕ). bs ++ drop 5 row) (ap savedForm e ∙ page-form)),
 )
 
 -- ---- all of them
 
-all-waits : (ls : List Wait) → Each (λ (l : Wait). Holds (Example.wait l)) ls → Each Holds (map Example.wait ls)
+all-waits : (ls : List Wait) → Each (λ (l : Wait). Stated (Example.wait l)) ls → Each Stated (map Example.wait ls)
 all-waits [] h = tt
 all-waits (l ∷ ls) h = (h .0, all-waits ls (h .1))
 
-pub page-holds : Each Holds page
-unfolding wordsOf writable wordsOrZero writeWords timeDigits readWords readDigits digitsRefusal decimal field inRange hourOf minuteOf secondOf fractionOf tickAt digits num below packed unpacked readPacket packetRefusal frameLines bodyLines has placeOf bodyOf kindsOf ofKinds meaning offsetOf values formatOf modulationOf
+pub page-holds : Each Stated page
+unfolding wordsOf writable wordsOrZero writeWords timeDigits readWords readDigits digitsRefusal decimal field inRange hourOf minuteOf secondOf fractionOf tickAt digits num below packed unpacked readPacket packetRefusal frameLines bodyLines has placeOf bodyOf kindsOf ofKinds meaning offsetOf asciiValues formatOf modulationOf
 page-holds = ((refl, refl, refl), (refl, (refl, (refl, (refl, (refl, (refl, (refl, (page-saved, all-waits waits starred)))))))))

@@ -55,12 +55,12 @@ one-joins c b l h s =
     let m : b % 256 ≡ b = mod-eq-of-lt s in
     simp (l, ne-eqb (c .queue .fill) 64 (λ e. omega arith), m)
 
-record Fed (bs : List ℕ) (c : Card) : Type 0 where
+record Joined (bs : List ℕ) (c : Card) : Type 0 where
   pub card : fed c bs ≡ withQueue c (filled (c .queue) bs)
   pub stays : lawful (fed c bs) ≡ true
 
 -- bytes for which there is room
-feeds : (bs : List ℕ) (c : Card) → lawful c ≡ true → c .queue .fill + length bs ≤ 64 → below 256 bs ≡ true → Fed bs c
+feeds : (bs : List ℕ) (c : Card) → lawful c ≡ true → c .queue .fill + length bs ≤ 64 → below 256 bs ≡ true → Joined bs c
 unfolding below after
 feeds [] c l h s = record { card = refl; stays = l }
 feeds (b ∷ bs) c l h s =
@@ -72,7 +72,7 @@ feeds (b ∷ bs) c l h s =
 -- ---- an empty queue, filled and taken as a packet
 
 module _ (bs : List ℕ) (c : Card) (l : lawful c ≡ true) (z : c .queue ≡ emptyQueue) (room : length bs ≤ 64) (s : below 256 bs ≡ true) where
-  all-fed : Fed bs c
+  all-fed : Joined bs c
   all-fed = feeds bs c l (rw z (omega arith)) s
 
   pub fed-card : fed c bs ≡ withQueue c (filled emptyQueue bs)

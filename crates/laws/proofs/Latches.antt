@@ -159,7 +159,7 @@ module _ (c : Card) (l : lawful c ≡ true) where
   unfolding Registers.edge granted
   edge-answers falling t e = simp (l, e)
 
-  reset-answers : Reset.reset c ≡ answer (resetCard (c .clock .time) (c .settings)) 0
+  pub reset-answers : Reset.reset c ≡ answer (resetCard (c .clock .time) (c .settings)) 0
   unfolding Reset.reset granted
   reset-answers = simp l
 

@@ -8,6 +8,7 @@ pub mod Latches
 pub mod Numbers
 pub mod Outcomes
 pub mod Pending
+pub mod Readings
 pub mod Refused
 pub mod Saves
 pub mod Waits

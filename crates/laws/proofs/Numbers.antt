@@ -106,14 +106,14 @@ wait-gives : (c : Card) (n room : ℕ) → Waiting.wait c n room .waited .number
 unfolding Waiting.wait
 wait-gives c n room = wait-number (eqb (waitRefusal c n room) 0) _ _ ∙ zero-or (waitRefusal c n room) (eqb (waitRefusal c n room) 0) refl
 
-line-gives : (c : Card) (t : Bool) → lawful c ≡ t → Registers.line c .number ≡ given (18 if not (lawful c) ∷ [])
+line-table : (c : Card) (t : Bool) → lawful c ≡ t → Registers.line c .number ≡ given (18 if not (lawful c) ∷ [])
 unfolding Registers.line lineRefusal
-line-gives c true e = simp e (line-number (lineUp (c .interrupts)) _ _ ∙ same (lineUp (c .interrupts)))
+line-table c true e = simp e (line-number (lineUp (c .interrupts)) _ _ ∙ same (lineUp (c .interrupts)))
   where
     same : (t : Bool) → _≡_ {A = ℕ} (pick t 0 0) 0
     same true = refl
     same false = refl
-line-gives c false e = simp e
+line-table c false e = simp e
 
 -- ---- all calls
 
@@ -123,7 +123,7 @@ number-given (Call.setTime year day hour minute second) c = refl
 number-given (Call.read reg) c = read-gives c reg
 number-given (Call.write reg v) c = write-number c reg v
 number-given (Call.edge falling) c = refl
-number-given Call.line c = line-gives c (lawful c) refl
+number-given Call.line c = line-table c (lawful c) refl
 number-given (Call.setStrobe s) c = refl
 number-given (Call.setPeriodic d) c = refl
 number-given (Call.wait n row) c = wait-gives c n (length row)

@@ -104,10 +104,10 @@ module _ (k : Call) (c d : Card) where
   one-line n true z e h true l = accepted l (h refl)
   one-line n false z e h true l = by (λ (x : Card). Outcome k c x n) (eqb n 0) (λ q. absurd (clash (eqb n 0) q z)) (λ q. refused l z e)
 
-  no-line : (lawful c ≡ true → Effect c k d) → (known : Bool) → lawful c ≡ known → Ends k c (granted (18 if not known ∷ []) c d)
+  only-18 : (lawful c ≡ true → Effect c k d) → (known : Bool) → lawful c ≡ known → Ends k c (granted (18 if not known ∷ []) c d)
   unfolding granted
-  no-line h false l = unlawful l
-  no-line h true l = accepted l (h l)
+  only-18 h false l = unlawful l
+  only-18 h true l = accepted l (h l)
 
 -- ---- registers
 
@@ -243,7 +243,7 @@ outcome (Call.setTime year day hour minute second) c =
 outcome (Call.read reg) c = read-by c reg (lawful c) refl
 outcome (Call.write reg v) c = write-by c reg v (lawful c) refl
 outcome (Call.edge falling) c =
-    no-line _ c _
+    only-18 _ c _
     (λ l. by (Effect c (Call.edge falling)) (captures (c .event .control) falling) (captures-edge falling) (passes-edge falling))
     (lawful c) refl
 outcome Call.line c = line-by c (lawful c) (lineUp (c .interrupts)) refl
@@ -253,6 +253,6 @@ outcome (Call.wait n row) c =
     by (λ (w : WaitedCard). Outcome (Call.wait n row) c (w .card) (w .waited .number)) (eqb (waitRefusal c n (length row)) 0)
     (λ e. wait-by c n row (lawful c) refl true e)
     (λ e. wait-by c n row (lawful c) refl false e)
-outcome Call.reset c = no-line _ c _ (λ l. resets) (lawful c) refl
+outcome Call.reset c = only-18 _ c _ (λ l. resets) (lawful c) refl
 outcome (Call.save row) c = save-by c row (lawful c) refl
 outcome (Call.load bytes) c = one-line _ c _ 19 (eqb (length bytes) 5 && meaningful (unpacked 2 8 bytes)) refl refl (loads bytes) (lawful c) refl

@@ -8,8 +8,6 @@ use mathlib.Core.Logic.{_↔_}
 use native.Mathlib.Omega.{arith}
 use lib.Dec.{eqb, lit<}
 use lib.ListN.{length}
-use borrow.Author.Tests.{eqb-true}
-use Rattle.wire.specs.Digits.{pick}
 use Rattle.wire.proofs.digits.Laws.{and-left, and-both}
 use Rattle.clock.specs.declared.waiting.Fell.{Fell}
 use Rattle.clock.specs.Waiting.{listed, passed, fell}
@@ -22,36 +20,25 @@ use Rattle.card.specs.declared.waiting.WaitedCard.{WaitedCard}
 use Rattle.card.specs.Lawful.{lawful}
 use Rattle.card.specs.Registers.{captures}
 use Rattle.card.specs.Registers
-use Rattle.card.specs.Waiting.{waitRefusal, waited, wait}
+use Rattle.card.specs.Waiting.{wait}
 use Rattle.card.proofs.lawful.Laws.{parts}
 use Rattle.card.proofs.registers.Laws.{edge-takes, intstat-takes}
 use Rattle.card.proofs.waiting.Laws.{wait-is, pending-after}
-use Rattle.laws.specs.Calls.{Call, after, number}
+use Rattle.laws.specs.Calls.{Call, after, number, pendingBit}
 use Rattle.laws.specs.Refusals.{Excepted}
+use Rattle.laws.specs.Demand.{Asked, front}
+use Rattle.laws.proofs.Demand.{accepts, front-listed, accepted-exactly-if}
 use Rattle.laws.proofs.Outcomes.{Effect, Outcome, by, outcome}
 use Rattle.laws.proofs.Refused.{accepted-lawful}
 
--- the bit of an index, of the pending bits of a card
-abbrev pending : ℕ → Card → Bool
-pending i c = bit (2 ^ i) (c .interrupts .pending)
-
 pending-small : (c : Card) → lawful c ≡ true → c .interrupts .pending < 32
 pending-small c l = ranges (c .interrupts) (parts c l .interrupts) .pending
-
--- a wait that gives 0 is not refused
-wait-went : (c : Card) (n : ℕ) (row : List ℕ) → number (Call.wait n row) c ≡ 0 → waitRefusal c n (length row) ≡ 0
-unfolding number wait
-wait-went c n row = go _ (waitRefusal c n (length row)) (eqb (waitRefusal c n (length row)) 0) refl
-  where
-    go : (x : WaitedCard) (m : ℕ) (t : Bool) → eqb m 0 ≡ t → pick t x (record { card = c; waited = waited m 0 0 }) .waited .number ≡ 0 → m ≡ 0
-    go x m true e h = eqb-true m 0 e
-    go x m false e h = h
 
 -- ---- the three calls that change them
 
 -- a captured edge raises bit 0
 pub edge-raises : (c : Card) (falling : Bool) (i : ℕ) → i < 5 → number (Call.edge falling) c ≡ 0 → captures (c .event .control) falling ≡ true
-    → pending i (after (Call.edge falling) c) ≡ (pending i c || eqb i 0)
+    → pendingBit i (after (Call.edge falling) c) ≡ (pendingBit i c || eqb i 0)
 unfolding after
 edge-raises c falling i l e t =
     let k = accepted-lawful (Call.edge falling) c e in
@@ -59,17 +46,18 @@ edge-raises c falling i l e t =
 
 -- a wait raises the bits of the sources that it lists: 1 periodic, 2 strobe, 3 second
 pub wait-raises : (c : Card) (n : ℕ) (row : List ℕ) (i : ℕ) → i < 5 → number (Call.wait n row) c ≡ 0
-    → pending i (after (Call.wait n row) c)
-    ≡ (pending i c || sourceOf i (fell (listed (c .clock) n (length row)) .periodic) (fell (listed (c .clock) n (length row)) .strobe) (fell (listed (c .clock) n (length row)) .second))
+    → pendingBit i (after (Call.wait n row) c) ≡ (pendingBit i c || sourceOf i (fell (front c n row) .periodic) (fell (front c n row) .strobe) (fell (front c n row) .second))
 unfolding after
 wait-raises c n row i l e =
-    let k = accepted-lawful (Call.wait n row) c e in
+    let h : Asked c n (length row) = accepted-exactly-if c n row .0 e in
     let f : Fell = fell (listed (c .clock) n (length row)) in
-    ap (λ (x : ℕ). bit (2 ^ i) x) (ap (λ (w : WaitedCard). w .card .interrupts .pending) (wait-is c n (length row) (wait-went c n row e)) ∙ pending-after c (passed (c .clock) n (length row)) f)
-    ∙ sources-raise (f .periodic) (f .strobe) (f .second) (c .interrupts .pending) (pending-small c k) i l
+    ap (λ (x : ℕ). bit (2 ^ i) x)
+    (ap (λ (w : WaitedCard). w .card .interrupts .pending) (wait-is c n (length row) (accepts c n (length row) h)) ∙ pending-after c (passed (c .clock) n (length row)) f)
+    ∙ sources-raise (f .periodic) (f .strobe) (f .second) (c .interrupts .pending) (pending-small c (h .known)) i l
+    ∙ ap (λ (rs : List ℕ). pendingBit i c || sourceOf i (fell rs .periodic) (fell rs .strobe) (fell rs .second)) (sym (front-listed c n row h))
 
 -- each 1 bit written to INTSTAT clears that pending bit, and no other is changed
-pub intstat-clears : (c : Card) (v i : ℕ) → i < 5 → number (Call.write 15 v) c ≡ 0 → pending i (after (Call.write 15 v) c) ≡ (pending i c && not (bit (2 ^ i) v))
+pub intstat-clears : (c : Card) (v i : ℕ) → i < 5 → number (Call.write 15 v) c ≡ 0 → pendingBit i (after (Call.write 15 v) c) ≡ (pendingBit i c && not (bit (2 ^ i) v))
 unfolding after
 intstat-clears c v i l e =
     let k = accepted-lawful (Call.write 15 v) c e in
@@ -77,20 +65,20 @@ intstat-clears c v i l e =
 
 -- ---- bit 4, for all calls
 
-four : (c : Card) (d : Card) (k : Call) → lawful c ≡ true → Effect c k d → pending 4 d ≡ true → pending 4 c ≡ true
+four : (c : Card) (d : Card) (k : Call) → lawful c ≡ true → Effect c k d → pendingBit 4 d ≡ true → pendingBit 4 c ≡ true
 four c d k l (Effect.sets-time year day hour minute second e) h = h
 four c d k l Effect.reads-time h = h
 four c d k l (Effect.reads-other reg e) h = h
 four c d k l (Effect.requests-time v) h = h
 four c d k l (Effect.writes-control v) h = h
-four c d k l (Effect.clears-done v e) h = by (λ (x : Card). pending 4 x ≡ true → pending 4 c ≡ true) (bit 1 v) (λ f g. g) (λ f g. g) h
+four c d k l (Effect.clears-done v e) h = by (λ (x : Card). pendingBit 4 x ≡ true → pendingBit 4 c ≡ true) (bit 1 v) (λ f g. g) (λ f g. g) h
 four c d k l (Effect.takes-packet v b e) h = h
 four c d k l (Effect.joins-queue v e) h = h
 four c d k l (Effect.writes-mask v) h = h
-four c d k l (Effect.clears-pending v) h = and-left (pending 4 c) (not (bit 16 v)) (sym (clears 4 v (c .interrupts .pending) (lit< tt) (pending-small c l)) ∙ h)
+four c d k l (Effect.clears-pending v) h = and-left (pendingBit 4 c) (not (bit 16 v)) (sym (clears 4 v (c .interrupts .pending) (lit< tt) (pending-small c l)) ∙ h)
 four c d k l (Effect.writes-level v) h = h
 four c d k l (Effect.writes-vector v) h = h
-four c d k l (Effect.captures-edge falling e) h = sym (event-raises 4 (c .interrupts .pending) (lit< tt) (pending-small c l) ∙ or-false (pending 4 c)) ∙ h
+four c d k l (Effect.captures-edge falling e) h = sym (event-raises 4 (c .interrupts .pending) (lit< tt) (pending-small c l) ∙ or-false (pendingBit 4 c)) ∙ h
 four c d k l (Effect.passes-edge falling e) h = h
 four c d k l Effect.tells-line h = h
 four c d k l (Effect.sets-strobe s e) h = h
@@ -98,23 +86,23 @@ four c d k l (Effect.sets-periodic s e) h = h
 four c d k l (Effect.waits n row e) h =
     let f : Fell = fell (listed (c .clock) n (length row)) in
     sym (ap (λ (x : ℕ). bit 16 x) (pending-after c (passed (c .clock) n (length row)) f)
-    ∙ sources-raise (f .periodic) (f .strobe) (f .second) (c .interrupts .pending) (pending-small c l) 4 (lit< tt) ∙ or-false (pending 4 c))
+    ∙ sources-raise (f .periodic) (f .strobe) (f .second) (c .interrupts .pending) (pending-small c l) 4 (lit< tt) ∙ or-false (pendingBit 4 c))
     ∙ h
 four c d k l Effect.resets h = absurd (let z : _≡_ {A = ℕ} 0 1 = cc in omega arith)
 four c d k l (Effect.saves row) h = h
 four c d k l (Effect.loads bytes e) h = h
 
-four-excepted : {n : ℕ} (k : Call) (c d : Card) → Excepted k c d n → pending 4 d ≡ true → pending 4 c ≡ true
+four-excepted : {n : ℕ} (k : Call) (c d : Card) → Excepted k c d n → pendingBit 4 d ≡ true → pendingBit 4 c ≡ true
 four-excepted k c d (Excepted.packet v l b z) h = h
 
-four-by : {n : ℕ} (k : Call) (c d : Card) → Outcome k c d n → pending 4 d ≡ true → pending 4 c ≡ true
+four-by : {n : ℕ} (k : Call) (c d : Card) → Outcome k c d n → pendingBit 4 d ≡ true → pendingBit 4 c ≡ true
 four-by k c d (Outcome.unlawful l) h = h
 four-by k c d (Outcome.refused l e f) h = h
 four-by k c d (Outcome.accepted l o) h = four c d k l o h
 four-by k c d (Outcome.excepted l x e f) h = four-excepted k c d x h
 
 -- no call raises bit 4: where it is set, it was set before
-pub never-four : (k : Call) (c : Card) → pending 4 (after k c) ≡ true → pending 4 c ≡ true
+pub never-four : (k : Call) (c : Card) → pendingBit 4 (after k c) ≡ true → pendingBit 4 c ≡ true
 never-four k c = four-by k c (after k c) (outcome k c)
 
 -- ---- the line

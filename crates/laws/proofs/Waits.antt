@@ -27,7 +27,8 @@ use Rattle.card.specs.Setting.{setTime, setPeriodic, setStrobe}
 use Rattle.card.specs.Waiting.{pendingAfter, cardAfter, waitRefusal, wait, rowWaited}
 use Rattle.card.proofs.setting.Laws.{sets}
 use Rattle.laws.specs.Calls.{Call, after}
-use Rattle.laws.specs.Examples.{pageCard, PageCard, Wait, Says, Holds, Example, waits, Each}
+use Rattle.laws.specs.Each.{Each}
+use Rattle.laws.specs.Examples.{pageCard, PageCard, Wait, Says, Stated, Example, waits}
 use Rattle.laws.proofs.Keeps.{fresh-lawful, fresh-all, keeps-all}
 
 -- ---- what a line says
@@ -105,7 +106,7 @@ module _ (ms : ℕ) (h : ms ≤ 999) where
 
 -- ---- the three lines
 
-pub starred : Each (λ (l : Wait). Holds (Example.wait l)) waits
+pub starred : Each (λ (l : Wait). Stated (Example.wait l)) waits
 unfolding sourcesRaised raised sourceListed
 starred = (
   (page-card 200 (lit≤ tt), says _ _ (record { records = at-200; places = refl; row = refl; passed = refl; count = refl; pending = refl })),

@@ -1,6 +1,6 @@
--- All calls that take a card, in the page's order: the card afterwards, the number and the values given back, the lent row afterwards, and, in this one place,
+-- All calls that take a card, in the page's order (the wait in place is the wait, by its contract; `is_lawful` tells and changes nothing): the card afterwards, the number and the values given back, the lent row afterwards, and, in this one place,
 -- the fields that each may touch.
-use Prim.Native.Nat.{ℕ}
+use Prim.Native.Nat.{ℕ, _^_}
 use mathlib.Core.Path.{_≡_}
 use mathlib.Core.Bool.{Bool, false, _||_}
 use mathlib.Core.List.{List, [], _∷_}
@@ -234,6 +234,12 @@ pub data LatchesTime : Call → Type 0 where
 pub data LatchesEvent : Call → Type 0 where
   edges : (falling : Bool) → LatchesEvent (Call.edge falling)
   resets : LatchesEvent Call.reset
+
+-- PENDING BITS
+
+-- the pending bit of an index
+abbrev pub pendingBit : ℕ → Card → Bool
+pendingBit i c = bit (2 ^ i) (c .interrupts .pending)
 
 -- CHAINS
 

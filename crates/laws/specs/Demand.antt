@@ -3,11 +3,11 @@ use Prim.Native.Nat.{ℕ, pred, _+_, _-_, _*_, _/_, _≤_, _<_}
 use mathlib.Core.Path.{_≡_}
 use mathlib.Core.Bool.{true}
 use mathlib.Core.List.{List, _++_}
-use lib.ListN.{length, take, getD}
+use lib.ListN.{length, take, drop, getD}
 use Rattle.wire.specs.Time.{ticksOfDay}
 use Rattle.clock.specs.Time.{later}
 use Rattle.clock.specs.Falling.{falls}
-use Rattle.clock.specs.Waiting.{movedOn, Stands}
+use Rattle.clock.specs.Waiting.{movedOn, Stands, clockLater}
 use Rattle.card.specs.declared.card.Card.{Card}
 use Rattle.card.specs.Lawful.{lawful}
 use Rattle.card.specs.Waiting.{wait, rowWaited}
@@ -39,6 +39,11 @@ pub record Lists (c : Card) (n : ℕ) (row : List ℕ) : Type 0 where
       → (1 ≤ r / 8) × (r / 8 ≤ ticksPassed c n (length row)) × (0 < falls (c .clock) (r / 8)) × (r ≡ 8 * (r / 8) + falls (c .clock) (r / 8))
   pub rising : (i j : ℕ) → i < j → j < length (front c n row) → getD (front c n row) i 0 / 8 < getD (front c n row) j 0 / 8
   pub once : (i j : ℕ) → i < length (front c n row) → j < length (front c n row) → getD (front c n row) i 0 / 8 ≡ getD (front c n row) j 0 / 8 → i ≡ j
+
+-- "Records fill the row from its front; later places stay unchanged. The time and the periodic count advance by the ticks passed", and the strobe stays
+pub record Leaves (c : Card) (n : ℕ) (row : List ℕ) : Type 0 where
+  pub places : drop (recordsWritten c n (length row)) (rowWaited c n row) ≡ drop (recordsWritten c n (length row)) row
+  pub clock : wait c n (length row) .card .clock ≡ clockLater (ticksPassed c n (length row)) (c .clock)
 
 -- "It stops early only if more such ticks fall within it than there is room for, and then with the room full, on the last one listed."
 pub record Early (c : Card) (n : ℕ) (row : List ℕ) : Type 0 where

@@ -71,15 +71,16 @@ pub data Example : Type 0 where
   wait : Wait → Example
 
 -- what an example says
-abbrev pub Holds : Example → Type 0
-Holds (words day hour minute second fraction tick ws) =
+abbrev pub Stated : Example → Type 0
+Stated (words day hour minute second fraction tick ws) =
     (tickAt hour minute second fraction ≡ tick) × (writeWords day tick ≡ record { number = 0; words = ws }) × (readWords ws ≡ timeRead 0 day tick)
-Holds (unread ws n) = readWords ws ≡ timeRead n 0 0
-Holds (packet bytes r) = readPacket bytes ≡ r
-Holds (saved s ks bytes) =
-    (afterAll ks freshCard .settings ≡ s)
+Stated (unread ws n) = readWords ws ≡ timeRead n 0 0
+Stated (packet bytes r) = readPacket bytes ≡ r
+Stated (saved s ks bytes) =
+    (lawful (afterAll ks freshCard) ≡ true)
+    × (afterAll ks freshCard .settings ≡ s)
     × ((c : Card) → lawful c ≡ true → c .settings ≡ s → (row : List ℕ) → 5 ≤ length row → (saveRefusal c (length row) ≡ 0) × (rowSaved c row ≡ bytes ++ drop 5 row))
-Holds (wait l) = PageCard (l .ms) (pageCard (l .ms)) × ((c : Card) → PageCard (l .ms) c → Says l c)
+Stated (wait l) = PageCard (l .ms) (pageCard (l .ms)) × ((c : Card) → PageCard (l .ms) c → Says l c)
 
 -- THE TABLE
 
@@ -111,8 +112,3 @@ page =
     ∷ packet (0x01 ∷ 0x41 ∷ 0x30 ∷ 0x30 ∷ 0x17 ∷ []) (PacketRead.Refused 8)
     ∷ saved pageSettings pageCalls (0x06 ∷ 0x00 ∷ 0x18 ∷ 0x6A ∷ 0x00 ∷ [])
     ∷ map wait waits
-
--- each of a list
-abbrev pub Each : {A : Type 0} → (A → Type 0) → List A → Type 0
-Each P [] = Unit {0}
-Each P (x ∷ xs) = P x × Each P xs

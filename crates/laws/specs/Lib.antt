@@ -1,4 +1,6 @@
 pub mod Calls
 pub mod Demand
+pub mod Each
 pub mod Examples
+pub mod Readings
 pub mod Refusals

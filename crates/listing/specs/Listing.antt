@@ -13,7 +13,7 @@ use Rattle.card.specs.declared.card.Card.{Card}
 use Rattle.card.specs.Registers.{writeRegister}
 use Rattle.card.specs.Reset.{freshCard}
 use Rattle.laws.specs.Calls.{fed}
-use Rattle.laws.specs.Examples.{Each}
+use Rattle.laws.specs.Each.{Each}
 use Rattle.listing.specs.declared.feeding.Bench.{Bench}
 use Rattle.listing.specs.declared.feeding.Fed.{Fed}
 
@@ -53,12 +53,12 @@ trimmed (d ∷ []) = d ∷ []
 trimmed (d ∷ e ∷ ds) = pick (eqb d 0) (trimmed (e ∷ ds)) (d ∷ e ∷ ds)
 
 -- a number below 10 ^ 20 in decimal
-unfoldable pub decimal : ℕ → List ℕ
-decimal n = ascii (trimmed (digits 10 20 n))
+unfoldable pub inDecimal : ℕ → List ℕ
+inDecimal n = ascii (trimmed (digits 10 20 n))
 
 -- a piece's number, a space, its answer, a newline
 unfoldable pub line : ℕ → ℕ → List ℕ
-line n answer = decimal n ++ (0x20 ∷ (decimal answer ++ (0x0A ∷ [])))
+line n answer = inDecimal n ++ (0x20 ∷ (inDecimal answer ++ (0x0A ∷ [])))
 
 -- the lines of pieces, numbered from n on
 unfoldable pub lines : ℕ → List (List ℕ) → List ℕ
@@ -146,11 +146,7 @@ pub record Finishing (b : Bench) (before after : List ℕ) (r : ℕ) : Type 0 wh
   pub row : after ≡ placed before 0 (lastLine b (length before))
   pub written : r ≤ length before
 
--- all that is written when an input comes in parts
-unfoldable pub textOver : List ℕ → ℕ → List (List ℕ) → List ℕ
-textOver held n [] = lines n (lastPiece held)
-textOver held n (part ∷ parts) = lines n (pieces held part) ++ textOver (rest held part) (n + length (pieces held part)) parts
-
+-- parts, one behind the other
 unfoldable pub joinedParts : List (List ℕ) → List ℕ
 joinedParts [] = []
 joinedParts (part ∷ parts) = part ++ joinedParts parts

@@ -2,7 +2,7 @@
 ghost use mathlib.Core.List.{[], _∷_};
 ghost use Prim.Native.Nat.{_+_, _≤_, _<_};
 ghost use lib.ListN.{length};
-ghost use Rattle.listing.specs.Listing.{decimal, Places, Put, PutLine};
+ghost use Rattle.listing.specs.Listing.{inDecimal, Places, Put, PutLine};
 
 // How many decimal digits a number has.
 fn places(n: u64) -> usize
@@ -19,8 +19,8 @@ fn places(n: u64) -> usize
 
 // A number in decimal. Answers the place behind it.
 fn put_decimal(n: u64, row: &mut [u8], at: usize) -> usize
-    requires { ⌜ at + length (decimal n) ≤ length (now row) ⌝ }
-    ensures { λ r. ⌜ Put (now (row .entry)) at (decimal n) (now (row .exit)) r ⌝ }
+    requires { ⌜ at + length (inDecimal n) ≤ length (now row) ⌝ }
+    ensures { λ r. ⌜ Put (now (row .entry)) at (inDecimal n) (now (row .exit)) r ⌝ }
 {
     let k = places(n);
     let mut i = k;

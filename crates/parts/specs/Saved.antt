@@ -114,25 +114,29 @@ rowPut s row = pick (eqb (putRefusal s (length row)) 0) (savedForm s ++ drop 5 r
 unfoldable pub readSaved : List ℕ → SettingsRead
 readSaved bytes = pick (eqb (savedRefusal bytes) 0) (SettingsRead.Is (settingsIn (unpacked 2 8 bytes))) SettingsRead.Refused
 
--- the answer's number as the page has it; its value is the settings, and there is none beside a refusal
+-- the answer as the page has it: its number, and the settings of a card that has these, which stay beside a refusal
 abbrev pub numberLoaded : SettingsRead → ℕ
 numberLoaded (SettingsRead.Is s) = 0
 numberLoaded SettingsRead.Refused = 19
 
+abbrev pub settingsLoaded : Settings → SettingsRead → Settings
+settingsLoaded these (SettingsRead.Is s) = s
+settingsLoaded these SettingsRead.Refused = these
+
 -- WITHIN THE CRATE
 
 -- the parts of `settingsIn`, each by its number
-abbrev pub modulationOf : ℕ → Modulation
-modulationOf n = pick (eqb n 1) Modulation.D Modulation.M
+abbrev pub modulationOfBit : ℕ → Modulation
+modulationOfBit n = pick (eqb n 1) Modulation.D Modulation.M
 
-abbrev pub clockOf : ℕ → ClockSource
-clockOf n = pick (eqb n 1) ClockSource.External ClockSource.Internal
+abbrev pub clockOfBit : ℕ → ClockSource
+clockOfBit n = pick (eqb n 1) ClockSource.External ClockSource.Internal
 
-abbrev pub generatorOf : ℕ → Generator
-generatorOf n = pick (eqb n 1) Generator.H Generator.B
+abbrev pub generatorOfBit : ℕ → Generator
+generatorOfBit n = pick (eqb n 1) Generator.H Generator.B
 
-abbrev pub offsetOf : ℕ → ℕ → ℤ
-offsetOf sign size = pick (eqb sign 1) (negℤ (pos size)) (pos size)
+abbrev pub offsetOfBits : ℕ → ℕ → ℤ
+offsetOfBits sign size = pick (eqb sign 1) (negℤ (pos size)) (pos size)
 
 -- what forty bits are loaded as
 unfoldable pub readBits : List ℕ → SettingsRead

@@ -15,7 +15,7 @@ ghost use lib.ListN.{length, drop, replicate};
 ghost use lib.Dec.{eqb};
 ghost use Rattle.wire.specs.Digits.{digits, unpacked};
 ghost use Rattle.parts.specs.Settings.{settingsLawful};
-ghost use Rattle.parts.specs.Saved.{formatNumber, modulationBit, clockBit, generatorBit, signBit, settingsBits, savedForm, formatOfNumber, modulationOf, clockOf, generatorOf, offsetOf, settingsIn, readBits, putRefusal, rowPut, readSaved};
+ghost use Rattle.parts.specs.Saved.{formatNumber, modulationBit, clockBit, generatorBit, signBit, settingsBits, savedForm, formatOfNumber, modulationOfBit, clockOfBit, generatorOfBit, offsetOfBits, settingsIn, readBits, putRefusal, rowPut, readSaved};
 
 // What bytes are loaded as: settings, or nothing.
 pub enum SettingsRead {
@@ -111,7 +111,7 @@ fn format_of(n: u64) -> Format
 }
 
 fn modulation_of(bit: u64) -> Modulation
-    ensures { λ r. ⌜ r ≡ modulationOf bit ⌝ }
+    ensures { λ r. ⌜ r ≡ modulationOfBit bit ⌝ }
 {
     match bit {
         1 => Modulation::D,
@@ -120,7 +120,7 @@ fn modulation_of(bit: u64) -> Modulation
 }
 
 fn clock_of(bit: u64) -> ClockSource
-    ensures { λ r. ⌜ r ≡ clockOf bit ⌝ }
+    ensures { λ r. ⌜ r ≡ clockOfBit bit ⌝ }
 {
     match bit {
         1 => ClockSource::External,
@@ -129,7 +129,7 @@ fn clock_of(bit: u64) -> ClockSource
 }
 
 fn generator_of(bit: u64) -> Generator
-    ensures { λ r. ⌜ r ≡ generatorOf bit ⌝ }
+    ensures { λ r. ⌜ r ≡ generatorOfBit bit ⌝ }
 {
     match bit {
         1 => Generator::H,
@@ -139,7 +139,7 @@ fn generator_of(bit: u64) -> Generator
 
 fn offset_of(sign: u64, size: u64) -> i32
     requires { ⌜ size < 16777216 ⌝ }
-    ensures { λ r. ⌜ r ≡ offsetOf sign size ⌝ }
+    ensures { λ r. ⌜ r ≡ offsetOfBits sign size ⌝ }
 {
     match sign {
         1 => 0 - (size as i32),

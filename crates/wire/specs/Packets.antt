@@ -168,15 +168,15 @@ unfoldable pub generatorOf : ℕ → Generator
 generatorOf b = pick (eqb b 0x42) Generator.B Generator.H
 
 -- the digits that ASCII bytes stand for
-unfoldable pub values : List ℕ → List ℕ
-values [] = []
-values (b ∷ bs) = (b - 48) ∷ values bs
+unfoldable pub asciiValues : List ℕ → List ℕ
+asciiValues [] = []
+asciiValues (b ∷ bs) = (b - 48) ∷ asciiValues bs
 
 abbrev pub signed : ℕ → ℕ → ℤ
 signed sign n = pick (eqb sign 0x2D) (negℤ (pos n)) (pos n)
 
 unfoldable pub offsetOf : ℕ → List ℕ → ℤ
-offsetOf sign bs = signed sign (num 10 (values bs))
+offsetOf sign bs = signed sign (num 10 (asciiValues bs))
 
 -- what id and data mean, where each byte is of its kind
 unfoldable pub meaning : ℕ → List ℕ → Packet
@@ -260,8 +260,8 @@ fits (Packet.I c) = true
 fits (Packet.K g) = true
 
 -- the table of numbers: 9, 10, and 14 last
-unfoldable pub writeRefusal : Packet → ℕ → ℕ
-writeRefusal p room =
+unfoldable pub writingRefusal : Packet → ℕ → ℕ
+writingRefusal p room =
     given
     (9 if not (fits p)
     ∷ 10 if not (means p)
@@ -272,11 +272,11 @@ abbrev pub packetWritten : ℕ → ℕ → PacketWritten
 packetWritten n k = record { number = n; bytes = k }
 
 unfoldable pub writePacket : Packet → ℕ → PacketWritten
-writePacket p room = pick (eqb (writeRefusal p room) 0) (packetWritten 0 (length (bytesOf p))) (packetWritten (writeRefusal p room) 0)
+writePacket p room = pick (eqb (writingRefusal p room) 0) (packetWritten 0 (length (bytesOf p))) (packetWritten (writingRefusal p room) 0)
 
 -- the row afterwards: places behind the bytes written, and the whole row beside a refusal, as they were
 unfoldable pub rowWritten : Packet → List ℕ → List ℕ
-rowWritten p row = pick (eqb (writeRefusal p (length row)) 0) (bytesOf p ++ drop (length (bytesOf p)) row) row
+rowWritten p row = pick (eqb (writingRefusal p (length row)) 0) (bytesOf p ++ drop (length (bytesOf p)) row) row
 
 -- THERE AND BACK
 
@@ -299,7 +299,7 @@ allDecimal [] = true
 allDecimal (b ∷ bs) = isDecimal b && allDecimal bs
 
 unfoldable pub readNumber : List ℕ → Number
-readNumber bs = pick (allDecimal bs) (Number.Is (num 10 (values bs))) Number.Bad
+readNumber bs = pick (allDecimal bs) (Number.Is (num 10 (asciiValues bs))) Number.Bad
 
 -- and what an id and data alone read as
 unfoldable pub readBody : ℕ → List ℕ → PacketRead

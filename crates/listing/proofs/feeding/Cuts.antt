@@ -11,7 +11,7 @@ use lib.ListN.{length, length-append}
 use borrow.Author.Tests.{eqb-true, eq-eqb, ne-eqb}
 use Rattle.wire.specs.Digits.{pick}
 use Rattle.wire.specs.Packets.{has}
-use Rattle.laws.specs.Examples.{Each}
+use Rattle.laws.specs.Each.{Each}
 use Rattle.listing.specs.Listing.{ends, pieces, rest, joinedParts, Piece, Uncut, Cut}
 use Rattle.listing.proofs.feeding.Laws.{rest-append, pieces-append, or-left, or-right, not-full, rest-ended, pieces-ended}
 

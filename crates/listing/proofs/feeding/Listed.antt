@@ -10,7 +10,7 @@ use Rattle.wire.specs.Digits.{below}
 use Rattle.wire.specs.Packets.{packetRefusal}
 use Rattle.wire.proofs.digits.Laws.{and-left, and-right, below-both}
 use Rattle.wire.proofs.packets.Read.{number-read}
-use Rattle.laws.specs.Examples.{Each}
+use Rattle.laws.specs.Each.{Each}
 use Rattle.listing.specs.Listing.{lastPiece, answerOf, line, lines, header, listing, joinedParts, Piece, Uncut, Cut, tableLines}
 use Rattle.listing.proofs.feeding.Answers.{answer-reads}
 use Rattle.listing.proofs.feeding.Cuts.{cut-only}

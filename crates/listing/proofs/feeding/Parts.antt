@@ -10,7 +10,7 @@ use lib.Seq.{take-at}
 use borrow.Author.Tests.{le-leb}
 use Rattle.listing.specs.declared.feeding.Bench.{Bench}
 use Rattle.listing.specs.declared.feeding.Fed.{Fed}
-use Rattle.listing.specs.Listing.{pieces, rest, lastPiece, lines, header, listing, queueOf, benchOf, heldIn, goesOn, takes, linesOf, fedTo, feed, lastLine, rowFed, placed, textOver, joinedParts, Runs, finished, called}
+use Rattle.listing.specs.Listing.{pieces, rest, lastPiece, lines, header, listing, queueOf, benchOf, heldIn, goesOn, takes, linesOf, fedTo, feed, lastLine, rowFed, placed, Runs, finished, called}
 use Rattle.listing.proofs.feeding.Laws.{rest-append, pieces-append, lines-append, rest-short}
 
 -- the pieces of an input, behind what is held
@@ -21,17 +21,6 @@ module _ (n : ℕ) (held xs ys : List ℕ) where
       ap₂ (λ (ps : List (List ℕ)) (r : List ℕ). lines n (ps ++ lastPiece r)) (pieces-append held xs ys) (rest-append held xs ys)
       ∙ ap (lines n) (append-assoc (pieces held xs) (pieces (rest held xs) ys) (lastPiece (rest (rest held xs) ys)))
       ∙ lines-append n (pieces held xs) (pieces (rest held xs) ys ++ lastPiece (rest (rest held xs) ys))
-
-pub over-parts : (held : List ℕ) (n : ℕ) (parts : List (List ℕ)) → textOver held n parts ≡ lines n (pieces held (joinedParts parts) ++ lastPiece (rest held (joinedParts parts)))
-unfolding textOver joinedParts pieces rest
-over-parts held n [] = refl
-over-parts held n (part ∷ parts) =
-    ap (λ (l : List ℕ). lines n (pieces held part) ++ l) (over-parts (rest held part) (n + length (pieces held part)) parts) ∙ sym (lines-parted n held part (joinedParts parts))
-
--- the header, and then what is written over any parts, is the listing of the whole
-pub parts-listing : (parts : List (List ℕ)) → header ++ textOver [] 1 parts ≡ listing (joinedParts parts)
-unfolding listing
-parts-listing parts = ap (λ (l : List ℕ). header ++ l) (over-parts [] 1 parts)
 
 -- a bench holds the bytes that it was left with
 pub held-again : (held : List ℕ) → heldIn (queueOf held) ≡ held
@@ -51,9 +40,19 @@ pub line-behind : (held : List ℕ) (n : ℕ) (part : List ℕ) → linesOf (ben
 line-behind held n part = ap (λ (x : List ℕ). lines n (pieces x part)) (held-again held)
 
 -- a call with room for a line takes at least one byte
-pub takes-some : (held : List ℕ) (n room b : ℕ) (bs : List ℕ) → goesOn n room ≡ true → 0 < takes held n room (b ∷ bs)
+some-taken : (held : List ℕ) (n room b : ℕ) (bs : List ℕ) → goesOn n room ≡ true → 0 < takes held n room (b ∷ bs)
 unfolding takes
-takes-some held n room b bs e = rw e (omega arith)
+some-taken held n room b bs e = rw e (omega arith)
+
+pub takes-some : (b : Bench) (x : ℕ) (xs : List ℕ) (room : ℕ) → b .queue .fill ≤ 40 → goesOn (b .number) room ≡ true → 0 < feed b (x ∷ xs) room .taken
+unfolding feed
+takes-some b x xs room h g =
+    let t : 0 < takes (heldIn (b .queue)) (b .number) room (x ∷ xs) = some-taken (heldIn (b .queue)) (b .number) room x xs g in
+    simp (le-leb (b .queue .fill) 40 h) (some-front (takes (heldIn (b .queue)) (b .number) room (x ∷ xs)) t)
+  where
+    some-front : (k : ℕ) → 0 < k → 0 < length (take k (x ∷ xs))
+    some-front zero l = absurd (omega arith)
+    some-front (suc k) l = omega arith
 
 -- A RUN OF CALLS
 

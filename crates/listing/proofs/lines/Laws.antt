@@ -15,7 +15,7 @@ use borrow.Author.Tests.{ne-eqb}
 use Rattle.wire.specs.Digits.{pick, digits}
 use Rattle.wire.specs.Packets.{ascii}
 use Rattle.wire.proofs.digits.Laws.{digits-length, lt-or-le}
-use Rattle.listing.specs.Listing.{trimmed, decimal, line, placed, Places, Put, PutLine}
+use Rattle.listing.specs.Listing.{trimmed, inDecimal, line, placed, Places, Put, PutLine}
 
 pos : (k : ℕ) → 0 < 10 ^ k
 pos k = one-le-pow k 10 (omega arith)
@@ -94,8 +94,8 @@ spelled-digits n (suc k) p =
     let e : m + suc k ≡ 20 = omega (arith, p .few) in
     ap (λ (x : ℕ). trimmed (digits 10 x n)) (sym e) ∙ skip m n k (p .holds) ∙ no-zero n k (p .holds) (p .none-less)
 
-pub decimal-digits : (n k : ℕ) → Places n k → decimal n ≡ ascii (digits 10 k n)
-unfolding decimal
+pub decimal-digits : (n k : ℕ) → Places n k → inDecimal n ≡ ascii (digits 10 k n)
+unfolding inDecimal
 decimal-digits n k p = ap ascii (spelled-digits n k p)
 
 -- LENGTHS
@@ -115,15 +115,15 @@ trimmed-length [] = omega arith
 trimmed-length (d ∷ []) = omega arith
 trimmed-length (d ∷ e ∷ ds) = trimmed-step (eqb d 0) (trimmed (e ∷ ds)) (d ∷ e ∷ ds) (omega (arith, trimmed-length (e ∷ ds)))
 
-pub digits-decimal : (n k : ℕ) → Places n k → length (decimal n) ≡ k
+pub digits-decimal : (n k : ℕ) → Places n k → length (inDecimal n) ≡ k
 digits-decimal n k p = ap length (decimal-digits n k p) ∙ ascii-length (digits 10 k n) ∙ digits-length 10 (omega arith) k n
 
-pub decimal-length : (n : ℕ) → length (decimal n) ≤ 20
-unfolding decimal
+pub decimal-length : (n : ℕ) → length (inDecimal n) ≤ 20
+unfolding inDecimal
 decimal-length n = omega (arith, ascii-length (trimmed (digits 10 20 n)), trimmed-length (digits 10 20 n), digits-length 10 (omega arith) 20 n)
 
-pub byte-length : (n : ℕ) → n < 256 → length (decimal n) ≤ 3
-unfolding decimal
+pub byte-length : (n : ℕ) → n < 256 → length (inDecimal n) ≤ 3
+unfolding inDecimal
 byte-length n h =
     let e : trimmed (digits 10 20 n) ≡ trimmed (digits 10 3 n) = skip 17 n 2 (let q : n < 10 ^ 3 = omega arith in q) in
     omega (arith, ascii-length (trimmed (digits 10 20 n)), ap length e, trimmed-length (digits 10 3 n), digits-length 10 (omega arith) 3 n)
@@ -201,7 +201,7 @@ spelled-more n at k before now left i s p =
           ∙ ap (λ (x : ℕ). take m before ++ ((48 + x % 10) ∷ text)) (s .above);
     }
 
-pub spelled-all : (n at k : ℕ) (before now : List ℕ) (left i : ℕ) → Places n k → Spelled n at k before now left i → i ≤ 0 → Put before at (decimal n) now (at + k)
+pub spelled-all : (n at k : ℕ) (before now : List ℕ) (left i : ℕ) → Places n k → Spelled n at k before now left i → i ≤ 0 → Put before at (inDecimal n) now (at + k)
 spelled-all n at k before now left i p s h =
     let e : i ≡ 0 = omega arith in
     let d : s .spelled ≡ k = omega (arith, s .sum) in
@@ -228,17 +228,17 @@ put-twice a b c at r q s t x y h =
 
 -- the four texts of a line
 pub put-line : (a b c d e : List ℕ) (at p q r s n answer : ℕ) → at + 25 ≤ length a → answer < 256 →
-    Put a at (decimal n) b p → Put b p (0x20 ∷ []) c q → Put c q (decimal answer) d r → Put d r (0x0A ∷ []) e s → PutLine a at n answer e s
+    Put a at (inDecimal n) b p → Put b p (0x20 ∷ []) c q → Put c q (inDecimal answer) d r → Put d r (0x0A ∷ []) e s → PutLine a at n answer e s
 unfolding line
 put-line a b c d e at p q r s n answer h l w x y z =
     let f = decimal-length n in
     let g = byte-length answer l in
-    let two = put-twice a b c at p q (decimal n) (0x20 ∷ []) w x (omega arith) in
-    let three = put-twice a c d at q r (decimal n ++ (0x20 ∷ [])) (decimal answer) two y (omega (arith, length-append (decimal n) (0x20 ∷ []))) in
+    let two = put-twice a b c at p q (inDecimal n) (0x20 ∷ []) w x (omega arith) in
+    let three = put-twice a c d at q r (inDecimal n ++ (0x20 ∷ [])) (inDecimal answer) two y (omega (arith, length-append (inDecimal n) (0x20 ∷ []))) in
     let four =
-    put-twice a d e at r s ((decimal n ++ (0x20 ∷ [])) ++ decimal answer) (0x0A ∷ []) three z
-    (omega (arith, length-append (decimal n ++ (0x20 ∷ [])) (decimal answer), length-append (decimal n) (0x20 ∷ []))) in
+    put-twice a d e at r s ((inDecimal n ++ (0x20 ∷ [])) ++ inDecimal answer) (0x0A ∷ []) three z
+    (omega (arith, length-append (inDecimal n ++ (0x20 ∷ [])) (inDecimal answer), length-append (inDecimal n) (0x20 ∷ []))) in
     record {
-      put = rw (append-assoc (decimal n ++ (0x20 ∷ [])) (decimal answer) (0x0A ∷ []), append-assoc (decimal n) (0x20 ∷ []) (decimal answer ++ (0x0A ∷ []))) at four;
+      put = rw (append-assoc (inDecimal n ++ (0x20 ∷ [])) (inDecimal answer) (0x0A ∷ []), append-assoc (inDecimal n) (0x20 ∷ []) (inDecimal answer ++ (0x0A ∷ []))) at four;
       short = omega (arith, w .behind, x .behind, y .behind, z .behind);
     }

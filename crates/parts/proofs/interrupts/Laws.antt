@@ -1,12 +1,12 @@
 -- The interrupt registers: which test decides. Assumes nothing.
-use Prim.Native.Nat.{ℕ, _<_}
+use Prim.Native.Nat.{ℕ, _%_, _<_}
 use mathlib.Core.Path.{_≡_, refl}
 use mathlib.Core.Bool.{true, false}
 use lib.Dec.{ltb}
 use borrow.Author.Tests.{lt-ltb, ltb-true, ne-eqb}
 use Rattle.wire.proofs.digits.Laws.{and-both}
 use Rattle.parts.specs.declared.interrupts.Interrupts.{Interrupts}
-use Rattle.parts.specs.Interrupts.{withPending, interruptsLawful, interruptsWritten, sourcesRaised}
+use Rattle.parts.specs.Interrupts.{withMask, withPending, withLevel, withVector, interruptsLawful, interruptsWritten, sourcesRaised}
 use Rattle.parts.specs.Pending.{raised, cleared}
 
 -- mask and pending bits in range, so LEVEL decides
@@ -19,7 +19,19 @@ pub writes-none : (i : Interrupts) (reg v : ℕ) → (reg ≡ 14 → ⊥) → (r
 unfolding interruptsWritten
 writes-none i reg v f g h k = simp (ne-eqb reg 14 f, ne-eqb reg 15 g, ne-eqb reg 16 h, ne-eqb reg 17 k)
 
--- INTSTAT
+-- each of the four
+pub writes-mask : (i : Interrupts) (v : ℕ) → interruptsWritten i 14 v ≡ withMask i (v % 32)
+unfolding interruptsWritten
+writes-mask i v = refl
+
+pub writes-level : (i : Interrupts) (v : ℕ) → interruptsWritten i 16 v ≡ withLevel i (v % 8)
+unfolding interruptsWritten
+writes-level i v = refl
+
+pub writes-vector : (i : Interrupts) (v : ℕ) → interruptsWritten i 17 v ≡ withVector i (v % 256)
+unfolding interruptsWritten
+writes-vector i v = refl
+
 pub writes-intstat : (i : Interrupts) (v : ℕ) → interruptsWritten i 15 v ≡ withPending i (cleared v (i .pending))
 unfolding interruptsWritten
 writes-intstat i v = refl

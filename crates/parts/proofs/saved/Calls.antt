@@ -5,13 +5,13 @@ use mathlib.Core.Bool.{Bool, true, false, _&&_, not}
 use mathlib.Core.List.{List, [], _∷_, _++_}
 use lib.Dec.{eqb, ltb}
 use lib.ListN.{length, drop}
-use borrow.Author.Tests.{lt-ltb, le-ltb}
+use borrow.Author.Tests.{lt-ltb, le-ltb, ne-eqb}
 use Rattle.wire.specs.Digits.{pick, unpacked}
 use Rattle.wire.specs.Numbers.{_if_, given}
 use Rattle.parts.specs.declared.settings.Settings.{Settings}
 use Rattle.parts.specs.declared.saved.SettingsRead.the-variants as SettingsRead
 use Rattle.parts.specs.Settings.{settingsLawful}
-use Rattle.parts.specs.Saved.{savedForm, meaningful, savedLines, savedRefusal, settingsIn, putRefusal, rowPut, readSaved, numberLoaded}
+use Rattle.parts.specs.Saved.{savedForm, meaningful, savedLines, savedRefusal, settingsIn, putRefusal, rowPut, readSaved, numberLoaded, settingsLoaded}
 
 -- SAVING
 
@@ -57,3 +57,17 @@ number-loaded bytes = go (eqb (length bytes) 5 && meaningful (unpacked 2 8 bytes
     go : (t : Bool) → numberLoaded (pick (eqb (given (19 if not t ∷ [])) 0) (SettingsRead.Is (settingsIn (unpacked 2 8 bytes))) SettingsRead.Refused) ≡ given (19 if not t ∷ [])
     go true = refl
     go false = refl
+
+-- and its settings are what the bytes say, if no line holds
+pub settings-loaded : (these : Settings) (bytes : List ℕ) → settingsLoaded these (readSaved bytes) ≡ pick (eqb (savedRefusal bytes) 0) (settingsIn (unpacked 2 8 bytes)) these
+unfolding readSaved
+settings-loaded these bytes = go (eqb (savedRefusal bytes) 0)
+  where
+    go : (t : Bool) → settingsLoaded these (pick t (SettingsRead.Is (settingsIn (unpacked 2 8 bytes))) SettingsRead.Refused) ≡ pick t (settingsIn (unpacked 2 8 bytes)) these
+    go true = refl
+    go false = refl
+
+-- a refused saving leaves the row
+pub put-stays : (s : Settings) (row : List ℕ) → (putRefusal s (length row) ≡ 0 → ⊥) → rowPut s row ≡ row
+unfolding rowPut
+put-stays s row h = simp (ne-eqb (putRefusal s (length row)) 0 h)

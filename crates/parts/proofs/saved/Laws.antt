@@ -29,7 +29,7 @@ use Rattle.parts.specs.declared.settings.Settings.{Settings}
 use Rattle.parts.specs.declared.saved.SettingsRead.{SettingsRead}
 use Rattle.parts.specs.declared.saved.SettingsRead.the-variants as SettingsRead
 use Rattle.parts.specs.Settings.{settingsLawful}
-use Rattle.parts.specs.Saved.{formatNumber, modulationBit, clockBit, generatorBit, signBit, settingsBits, savedForm, bitsAt, formatOfNumber, modulationOf, clockOf, generatorOf, offsetOf, settingsIn, meaningful, savedRefusal, readBits, readSaved}
+use Rattle.parts.specs.Saved.{formatNumber, modulationBit, clockBit, generatorBit, signBit, settingsBits, savedForm, bitsAt, formatOfNumber, modulationOfBit, clockOfBit, generatorOfBit, offsetOfBits, settingsIn, meaningful, savedRefusal, readBits, readSaved}
 
 -- DIGITS AT A PLACE
 
@@ -158,10 +158,10 @@ pub settings-at : (n : ℕ) →
     ≡ record {
       mode = n / 137438953472 % 8;
       format = formatOfNumber (n / 17179869184 % 8);
-      modulation = modulationOf (n / 8589934592 % 2);
-      clock = clockOf (n / 4294967296 % 2);
-      generator = generatorOf (n / 2147483648 % 2);
-      offset = offsetOf (n / 1073741824 % 2) (n / 64 % 16777216);
+      modulation = modulationOfBit (n / 8589934592 % 2);
+      clock = clockOfBit (n / 4294967296 % 2);
+      generator = generatorOfBit (n / 2147483648 % 2);
+      offset = offsetOfBits (n / 1073741824 % 2) (n / 64 % 16777216);
     }
 unfolding settingsIn
 settings-at n = simp (place 0 3 37 n, place 3 3 34 n, place 6 1 33 n, place 7 1 32 n, place 8 1 31 n, place 9 1 30 n, place 10 24 6 n)

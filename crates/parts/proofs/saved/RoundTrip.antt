@@ -22,7 +22,7 @@ use Rattle.wire.specs.declared.packets.Generator.the-variants as Generator
 use Rattle.wire.proofs.digits.Laws.{and-left, and-right, and-both, zeros, cut, below-append, digits-length, digits-below, read-part, part-below, unpack-packed, pack-unpacked, packed-length, unpacked-length}
 use Rattle.parts.specs.declared.settings.Settings.{Settings}
 use Rattle.parts.specs.Settings.{settingsLawful}
-use Rattle.parts.specs.Saved.{formatNumber, modulationBit, clockBit, generatorBit, signBit, settingsBits, savedForm, bitsAt, formatOfNumber, modulationOf, clockOf, generatorOf, offsetOf, settingsIn, meaningful, savedLines, savedRefusal}
+use Rattle.parts.specs.Saved.{formatNumber, modulationBit, clockBit, generatorBit, signBit, settingsBits, savedForm, bitsAt, formatOfNumber, modulationOfBit, clockOfBit, generatorOfBit, offsetOfBits, settingsIn, meaningful, savedLines, savedRefusal}
 use Rattle.parts.proofs.saved.Laws.{numberOf, number-bits, mode-small, size-small, format-below, modulation-below, clock-below, generator-below, sign-below, settings-at, meaningful-at}
 
 -- SAVED, THEN LOADED
@@ -42,19 +42,19 @@ format-four Format.C = refl
 format-four Format.N = refl
 format-four Format.X = refl
 
-modulation-back : (m : Modulation) → modulationOf (modulationBit m) ≡ m
+modulation-back : (m : Modulation) → modulationOfBit (modulationBit m) ≡ m
 modulation-back Modulation.M = refl
 modulation-back Modulation.D = refl
 
-clock-back : (c : ClockSource) → clockOf (clockBit c) ≡ c
+clock-back : (c : ClockSource) → clockOfBit (clockBit c) ≡ c
 clock-back ClockSource.External = refl
 clock-back ClockSource.Internal = refl
 
-generator-back : (g : Generator) → generatorOf (generatorBit g) ≡ g
+generator-back : (g : Generator) → generatorOfBit (generatorBit g) ≡ g
 generator-back Generator.B = refl
 generator-back Generator.H = refl
 
-offset-back : (z : ℤ) → offsetOf (signBit z) (natAbs z) ≡ z
+offset-back : (z : ℤ) → offsetOfBits (signBit z) (natAbs z) ≡ z
 offset-back (pos n) = refl
 offset-back (negsuc n) = refl
 
@@ -128,28 +128,28 @@ format-again (suc (suc (suc zero))) h = refl
 format-again (suc (suc (suc (suc zero)))) h = refl
 format-again (suc (suc (suc (suc (suc n))))) h = absurd (omega arith)
 
-modulation-again : (n : ℕ) → n < 2 → modulationBit (modulationOf n) ≡ n
+modulation-again : (n : ℕ) → n < 2 → modulationBit (modulationOfBit n) ≡ n
 modulation-again zero h = refl
 modulation-again (suc zero) h = refl
 modulation-again (suc (suc n)) h = absurd (omega arith)
 
-clock-again : (n : ℕ) → n < 2 → clockBit (clockOf n) ≡ n
+clock-again : (n : ℕ) → n < 2 → clockBit (clockOfBit n) ≡ n
 clock-again zero h = refl
 clock-again (suc zero) h = refl
 clock-again (suc (suc n)) h = absurd (omega arith)
 
-generator-again : (n : ℕ) → n < 2 → generatorBit (generatorOf n) ≡ n
+generator-again : (n : ℕ) → n < 2 → generatorBit (generatorOfBit n) ≡ n
 generator-again zero h = refl
 generator-again (suc zero) h = refl
 generator-again (suc (suc n)) h = absurd (omega arith)
 
-sign-again : (sign size : ℕ) → sign < 2 → not (eqb sign 1 && eqb size 0) ≡ true → signBit (offsetOf sign size) ≡ sign
+sign-again : (sign size : ℕ) → sign < 2 → not (eqb sign 1 && eqb size 0) ≡ true → signBit (offsetOfBits sign size) ≡ sign
 sign-again zero size h e = refl
 sign-again (suc zero) zero h e = absurd (let q : _≡_ {A = ℕ} 0 1 = cc in omega arith)
 sign-again (suc zero) (suc n) h e = refl
 sign-again (suc (suc n)) size h e = absurd (omega arith)
 
-size-again : (sign size : ℕ) → sign < 2 → natAbs (offsetOf sign size) ≡ size
+size-again : (sign size : ℕ) → sign < 2 → natAbs (offsetOfBits sign size) ≡ size
 size-again zero size h = refl
 size-again (suc zero) zero h = refl
 size-again (suc zero) (suc n) h = refl

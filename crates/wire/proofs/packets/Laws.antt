@@ -12,7 +12,7 @@ use lib.ListN.{length, take, drop, getD, drop-of-length-le, length-drop, replica
 use lib.Seq.{take-suc, take-all, drop-cons, getD-drop, length-take-le, sets, sets-eq}
 use borrow.Author.Tests.{lt-ltb, le-ltb, le-leb, lt-leb, leb-true, eq-eqb, ne-eqb}
 use Rattle.wire.specs.Digits.{pick, num, below}
-use Rattle.wire.specs.Packets.{has, placeOf, bodyOf, frameLines, packetRefusal, readPacket, readFramed, isDecimal, isOctal, isSign, isFormat, isModulation, isClock, isGenerator, modeMeans, pairMeans, formatOf, modulationOf, clockOf, generatorOf, offsetOf, allDecimal, values, readNumber, kindsOf, ofKinds, bodyLines, means, meaning, readAs, readBody, readPair, readSigned, fits, packetWritten, writeRefusal, writePacket, rowWritten, bytesOf, put, putInto}
+use Rattle.wire.specs.Packets.{has, placeOf, bodyOf, frameLines, packetRefusal, readPacket, readFramed, isDecimal, isOctal, isSign, isFormat, isModulation, isClock, isGenerator, modeMeans, pairMeans, formatOf, modulationOf, clockOf, generatorOf, offsetOf, allDecimal, asciiValues, readNumber, kindsOf, ofKinds, bodyLines, means, meaning, readAs, readBody, readPair, readSigned, fits, packetWritten, writingRefusal, writePacket, rowWritten, bytesOf, put, putInto}
 use Rattle.wire.specs.declared.packets.Packet.{Packet}
 use Rattle.wire.specs.declared.packets.Packet.the-variants as Packet
 use Rattle.wire.specs.declared.packets.PacketWritten.{PacketWritten}
@@ -144,8 +144,8 @@ body-some row e l h = ap (readFramed row) (let q : e ≡ suc (suc (e - 2)) = ome
 
 -- NUMBERS
 
-values-append : (xs ys : List ℕ) → values (xs ++ ys) ≡ values xs ++ values ys
-unfolding values
+values-append : (xs ys : List ℕ) → asciiValues (xs ++ ys) ≡ asciiValues xs ++ asciiValues ys
+unfolding asciiValues
 values-append [] ys = refl
 values-append (x ∷ xs) ys = ap (λ (l : List ℕ). (x - 48) ∷ l) (values-append xs ys)
 
@@ -162,17 +162,17 @@ decimal-at (x ∷ bs) (suc i) h e = ap (λ (t : Bool). isDecimal x && t) (decima
 
 pub not-decimal : (bs : List ℕ) (i : ℕ) → i < length bs → isDecimal (getD bs i 0) ≡ false → readNumber bs ≡ Number.Bad
 unfolding readNumber
-not-decimal bs i h e = ap (λ (t : Bool). pick t (Number.Is (num 10 (values bs))) Number.Bad) (decimal-at bs i h e)
+not-decimal bs i h e = ap (λ (t : Bool). pick t (Number.Is (num 10 (asciiValues bs))) Number.Bad) (decimal-at bs i h e)
 
 -- the digits up to place i are decimal, and write acc
 pub record Read (bs : List ℕ) (acc i : ℕ) : Type 0 where
   pub within : i ≤ length bs
   pub decimal : allDecimal (take i bs) ≡ true
-  pub sum : acc ≡ num 10 (values (take i bs))
+  pub sum : acc ≡ num 10 (asciiValues (take i bs))
   pub small : acc < 10 ^ i
 
 pub read-none : (bs : List ℕ) → Read bs 0 0
-unfolding allDecimal values num
+unfolding allDecimal asciiValues num
 read-none bs = record { within = zero-le; decimal = refl; sum = refl; small = lit< tt }
 
 module _ (bs : List ℕ) (acc i : ℕ) (r : Read bs acc i) (h : i < length bs) where
@@ -184,13 +184,13 @@ module _ (bs : List ℕ) (acc i : ℕ) (r : Read bs acc i) (h : i < length bs) w
   one-more = rw add-one (take-suc bs i 0 h)
 
   pub read-more : 48 ≤ getD bs i 0 → getD bs i 0 ≤ 57 → Read bs (acc * 10 + (getD bs i 0 - 48)) (i + 1)
-  unfolding b allDecimal values num
+  unfolding b allDecimal asciiValues num
   read-more l u =
       record {
         within = omega arith;
         decimal = ap allDecimal one-more ∙ decimal-append (take i bs) (b ∷ []) ∙ simp (r .decimal, le-leb 48 b l, le-leb b 57 u);
         sum =
-            rw (one-more, values-append (take i bs) (b ∷ []), num-append 10 (lit< tt) (values (take i bs)) ((b - 48) ∷ []), ← r .sum)
+            rw (one-more, values-append (take i bs) (b ∷ []), num-append 10 (lit< tt) (asciiValues (take i bs)) ((b - 48) ∷ []), ← r .sum)
             (omega arith);
         small = rw (add-one i, pow-suc 10 i) (omega (arith, r .small));
       }
@@ -199,7 +199,7 @@ pub read-all : (bs : List ℕ) (acc i : ℕ) → Read bs acc i → length bs ≤
 unfolding readNumber
 read-all bs acc i r h =
     let e : take i bs ≡ bs = take-all i bs h in
-    simp (rw e at (r .decimal)) (ap Number.Is (r .sum ∙ ap (λ (l : List ℕ). num 10 (values l)) e))
+    simp (rw e at (r .decimal)) (ap Number.Is (r .sum ∙ ap (λ (l : List ℕ). num 10 (asciiValues l)) e))
 
 -- THE TABLE FROM 7 ON
 
@@ -298,21 +298,21 @@ offset-body ds l =
     (kinds-cons isSign (replicate 7 isDecimal) ds (omega arith) ∙ ap (λ (t : Bool). isSign (getD ds 0 0) && t) (kinds-decimal 7 (drop 1 ds) (simp length-drop (omega arith))))
     ∙ signed-read (getD ds 0 0) (drop 1 ds) (allDecimal (drop 1 ds)) refl
 
-pub values-length : (ds : List ℕ) → length (values ds) ≡ length ds
-unfolding values
+pub values-length : (ds : List ℕ) → length (asciiValues ds) ≡ length ds
+unfolding asciiValues
 values-length [] = refl
 values-length (d ∷ ds) = ap suc (values-length ds)
 
-pub values-below : (ds : List ℕ) → allDecimal ds ≡ true → below 10 (values ds) ≡ true
-unfolding values allDecimal below
+pub values-below : (ds : List ℕ) → allDecimal ds ≡ true → below 10 (asciiValues ds) ≡ true
+unfolding asciiValues allDecimal below
 values-below [] h = refl
 values-below (d ∷ ds) h =
     let u : d ≤ 57 = leb-true d 57 (and-right (leb 48 d) (leb d 57) (and-left (isDecimal d) (allDecimal ds) h)) in
     simp (lt-ltb (d - 48) 10 (omega arith), values-below ds (and-right (isDecimal d) (allDecimal ds) h))
 
 -- seven digits write a number below ten million
-pub seven-small : (ds : List ℕ) → length ds ≡ 7 → allDecimal ds ≡ true → num 10 (values ds) < 10000000
-seven-small ds l h = let n : num 10 (values ds) < 10 ^ length (values ds) = num-below 10 (lit< tt) (values ds) (values-below ds h) in rw (values-length ds ∙ l) at n
+pub seven-small : (ds : List ℕ) → length ds ≡ 7 → allDecimal ds ≡ true → num 10 (asciiValues ds) < 10000000
+seven-small ds l h = let n : num 10 (asciiValues ds) < 10 ^ length (asciiValues ds) = num-below 10 (lit< tt) (asciiValues ds) (values-below ds h) in rw (values-length ds ∙ l) at n
 
 is-number : (t : Bool) (m n : ℕ) → pick t (Number.Is m) Number.Bad ≡ Number.Is n → (t ≡ true) × (m ≡ n)
 is-number true m n e = (refl, cc)
@@ -321,7 +321,7 @@ is-number false m n e = absurd (let z : _≡_ {A = ℕ} 0 1 = cc in omega arith)
 seven : (ds : List ℕ) (n : ℕ) → length ds ≡ 7 → readNumber ds ≡ Number.Is n → n ≤ 9999999
 unfolding readNumber
 seven ds n l e =
-    let q = is-number (allDecimal ds) (num 10 (values ds)) n e in
+    let q = is-number (allDecimal ds) (num 10 (asciiValues ds)) n e in
     let s = seven-small ds l (q .0) in
     omega arith
 
@@ -365,15 +365,15 @@ fourteen-row false a b = refl
 
 module _ (p : Packet) (row : List ℕ) where
   pub write-9 : fits p ≡ false → (packetWritten 9 0 ≡ writePacket p (length row)) × (row ≡ rowWritten p row)
-  unfolding writePacket rowWritten writeRefusal
+  unfolding writePacket rowWritten writingRefusal
   write-9 f = (simp f, simp f)
 
   pub write-10 : fits p ≡ true → means p ≡ false → (packetWritten 10 0 ≡ writePacket p (length row)) × (row ≡ rowWritten p row)
-  unfolding writePacket rowWritten writeRefusal
+  unfolding writePacket rowWritten writingRefusal
   write-10 f m = (simp (f, m), simp (f, m))
 
   pub write-put : (bs : List ℕ) → bs ≡ bytesOf p → fits p ≡ true → means p ≡ true → (r : PacketWritten) (after : List ℕ) → (r ≡ put bs (length row)) × (after ≡ putInto bs row) → (r ≡ writePacket p (length row)) × (after ≡ rowWritten p row)
-  unfolding writePacket rowWritten writeRefusal put putInto
+  unfolding writePacket rowWritten writingRefusal put putInto
   write-put bs e f m r after w = (
     w .0 ∙ ap (λ (l : List ℕ). put l (length row)) e ∙ simp (f, m) (fourteen (ltb (length row) (length (bytesOf p))) (length (bytesOf p))),
     w .1 ∙ ap (λ (l : List ℕ). putInto l row) e ∙ simp (f, m) (fourteen-row (ltb (length row) (length (bytesOf p))) row (bytesOf p ++ drop (length (bytesOf p)) row)),

@@ -14,7 +14,7 @@ use lib.Seq.{take-append-seam, split-at}
 use borrow.Author.Tests.{lt-ltb, le-leb, ltb-true, leb-true, ne-eqb, eqb-true, eq-eqb, le-ltb, not-false}
 use Rattle.wire.specs.Digits.{pick, digits, num, below}
 use Rattle.wire.specs.Numbers.{_if_, given, quiet, absent}
-use Rattle.wire.specs.Packets.{has, placeOf, bodyOf, frameLines, bodyLines, packetRefusal, readPacket, readFramed, readBody, readAs, kindsOf, ofKinds, meaning, means, fits, pairMeans, isDecimal, isOctal, isSign, isFormat, isModulation, isClock, isGenerator, allDecimal, values, ascii, signOf, signed, offsetOf, readNumber, readSigned, readPair, formatOf, modulationOf, clockOf, generatorOf, letterOfFormat, letterOfModulation, letterOfClock, letterOfGenerator, idOf, dataOf, framed, bytesOf, packetLines, packetIn, packetWritten, writeRefusal, writePacket, rowWritten, minusZero, Holds}
+use Rattle.wire.specs.Packets.{has, placeOf, bodyOf, frameLines, bodyLines, packetRefusal, readPacket, readFramed, readBody, readAs, kindsOf, ofKinds, meaning, means, fits, pairMeans, isDecimal, isOctal, isSign, isFormat, isModulation, isClock, isGenerator, allDecimal, asciiValues, ascii, signOf, signed, offsetOf, readNumber, readSigned, readPair, formatOf, modulationOf, clockOf, generatorOf, letterOfFormat, letterOfModulation, letterOfClock, letterOfGenerator, idOf, dataOf, framed, bytesOf, packetLines, packetIn, packetWritten, writingRefusal, writePacket, rowWritten, minusZero, Holds}
 use Rattle.wire.specs.declared.packets.Number.{Number}
 use Rattle.wire.specs.declared.packets.Number.the-variants as Number
 use Rattle.wire.specs.declared.packets.Format.{Format}
@@ -110,8 +110,8 @@ generator-letter Generator.B = (refl, refl, refl)
 generator-letter Generator.H = (refl, refl, refl)
 
 -- digits
-values-ascii : (ds : List ℕ) → values (ascii ds) ≡ ds
-unfolding values ascii
+values-ascii : (ds : List ℕ) → asciiValues (ascii ds) ≡ ds
+unfolding asciiValues ascii
 values-ascii [] = refl
 values-ascii (d ∷ ds) = ap₂ (λ (x : ℕ) (l : List ℕ). x ∷ l) (let q : 48 + d - 48 ≡ d = omega arith in q) (values-ascii ds)
 
@@ -349,8 +349,8 @@ unfolding generatorOf
 generator-back b h = letter-step letterOfGenerator Generator.B _ b _ h (letter-last letterOfGenerator Generator.H b)
 
 -- so are digits
-ascii-values : (ds : List ℕ) → allDecimal ds ≡ true → ascii (values ds) ≡ ds
-unfolding ascii values allDecimal
+ascii-values : (ds : List ℕ) → allDecimal ds ≡ true → ascii (asciiValues ds) ≡ ds
+unfolding ascii asciiValues allDecimal
 ascii-values [] h = refl
 ascii-values (d ∷ ds) h =
     let l : 48 ≤ d = leb-true 48 d (and-left (leb 48 d) (leb d 57) (and-left (isDecimal d) (allDecimal ds) h)) in
@@ -462,11 +462,11 @@ module _ (bs : List ℕ) where
       go true q r = subst (λ (x : ℕ). Own 0x47 (x ∷ bs) (Packet.G (signed x n))) (sym (eqb-true s 0x2B q)) (own-plus n h e)
       go false q r = subst (λ (x : ℕ). Own 0x47 (x ∷ bs) (Packet.G (signed x n))) (sym (eqb-true s 0x2D r)) (own-minus n h e)
 
-digits-of : (bs : List ℕ) → length bs ≡ 7 → allDecimal bs ≡ true → bs ≡ ascii (digits 10 7 (num 10 (values bs)))
+digits-of : (bs : List ℕ) → length bs ≡ 7 → allDecimal bs ≡ true → bs ≡ ascii (digits 10 7 (num 10 (asciiValues bs)))
 digits-of bs l h =
     sym (ascii-values bs h)
-    ∙ ap ascii (sym (read 10 (lit< tt) (values bs) (values-below bs h)))
-    ∙ ap (λ (k : ℕ). ascii (digits 10 k (num 10 (values bs)))) (values-length bs ∙ l)
+    ∙ ap ascii (sym (read 10 (lit< tt) (asciiValues bs) (values-below bs h)))
+    ∙ ap (λ (k : ℕ). ascii (digits 10 k (num 10 (asciiValues bs)))) (values-length bs ∙ l)
 
 cons-of : (ds : List ℕ) → 0 < length ds → ds ≡ getD ds 0 0 ∷ drop 1 ds
 cons-of [] l = absurd (omega arith)
@@ -482,10 +482,10 @@ own-offset ds p h =
     let k : (isSign s && allDecimal bs) ≡ true =
     sym (kinds-cons isSign (replicate 7 isDecimal) ds (omega arith) ∙ ap (λ (t : Bool). isSign s && t) (kinds-decimal 7 bs lb)) ∙ kinds 0x47 ds p h in
     let a : allDecimal bs ≡ true = and-right (isSign s) (allDecimal bs) k in
-    let m : num 10 (values bs) < 10000000 = seven-small bs lb a in
+    let m : num 10 (asciiValues bs) < 10000000 = seven-small bs lb a in
     subst (Own 0x47 ds) (got 0x47 ds p h .1)
-    (subst (λ (l : List ℕ). Own 0x47 l (Packet.G (signed s (num 10 (values bs))))) (sym (cons-of ds (omega arith)))
-    (own-signed bs s (num 10 (values bs)) (and-left (isSign s) (allDecimal bs) k) (omega arith) (digits-of bs lb a)))
+    (subst (λ (l : List ℕ). Own 0x47 l (Packet.G (signed s (num 10 (asciiValues bs))))) (sym (cons-of ds (omega arith)))
+    (own-signed bs s (num 10 (asciiValues bs)) (and-left (isSign s) (allDecimal bs) k) (omega arith) (digits-of bs lb a)))
 
 -- whatever the id
 unknown : (id : ℕ) → eqb id 0x41 ≡ false → eqb id 0x47 ≡ false → eqb id 0x48 ≡ false → eqb id 0x49 ≡ false → eqb id 0x4B ≡ false → eqb (length (kindsOf id)) 0 ≡ false → ⊥
@@ -522,27 +522,32 @@ written-read row p h =
 
 -- THE CALLS
 
-may-write : (p : Packet) (room : ℕ) → writePacket p room .number ≡ 0 → writeRefusal p room ≡ 0
+-- the number of writing is that of its table, and a refused writing writes nothing
+pub write-number : (p : Packet) (room : ℕ) → writePacket p room .number ≡ writingRefusal p room
 unfolding writePacket
-may-write p room = go (writeRefusal p room) (eqb (writeRefusal p room) 0) refl
+write-number p room = go (writingRefusal p room) (eqb (writingRefusal p room) 0) refl
   where
-    go : (n : ℕ) (t : Bool) → eqb n 0 ≡ t → pick t (packetWritten 0 (length (bytesOf p))) (packetWritten n 0) .number ≡ 0 → n ≡ 0
-    go n true e h = eqb-true n 0 e
-    go n false e h = h
+    go : (n : ℕ) (t : Bool) → eqb n 0 ≡ t → pick t (packetWritten 0 (length (bytesOf p))) (packetWritten n 0) .number ≡ n
+    go n true e = sym (eqb-true n 0 e)
+    go n false e = refl
+
+pub write-nothing : (p : Packet) (row : List ℕ) → (writePacket p (length row) .number ≡ 0 → ⊥) → (writePacket p (length row) .bytes ≡ 0) × (rowWritten p row ≡ row)
+unfolding writePacket rowWritten
+write-nothing p row h = let e = ne-eqb (writingRefusal p (length row)) 0 (λ z. h (write-number p (length row) ∙ z)) in (simp e, simp e)
 
 -- a packet written into a row reads back from that row, whatever stood there
 pub read-back : (p : Packet) (row : List ℕ) → writePacket p (length row) .number ≡ 0 → readPacket (rowWritten p row) ≡ PacketRead.Is p
-unfolding rowWritten writeRefusal
+unfolding rowWritten writingRefusal
 read-back p row e =
-    let z = may-write p (length row) e in
+    let z = sym (write-number p (length row)) ∙ e in
     let a = quiet-first (not (fits p)) _ (given-zero (9 if not (fits p) ∷ 10 if not (means p) ∷ 14 if ltb (length row) (length (bytesOf p)) ∷ []) refl .0 z) in
     let b = quiet-first (not (means p)) _ (a .1) in
-    simp (eq-eqb (writeRefusal p (length row)) 0 z)
+    simp (eq-eqb (writingRefusal p (length row)) 0 z)
     (read-written p (not-false (fits p) (a .0)) (not-false (means p) (b .0)) (drop (length (bytesOf p)) row))
 
 -- each packet that is read can be written, into any row that has room for its bytes, and all of them are written
 pub write-read : (row : List ℕ) (p : Packet) → readPacket row ≡ PacketRead.Is p → (room : ℕ) → length (bytesOf p) ≤ room → writePacket p room ≡ packetWritten 0 (length (bytesOf p))
-unfolding writePacket writeRefusal
+unfolding writePacket writingRefusal
 write-read row p h room l = simp (written-read row p h .fitting, written-read row p h .meant, le-ltb room (length (bytesOf p)) l)
 
 same-size : length minusZero ≡ length (bytesOf (Packet.G (pos 0)))

@@ -14,7 +14,7 @@ use Rattle.wire.specs.Digits.{digits, num, below, packed, unpacked, TwoT
 use Rattle.wire.specs.declared.digits.Split.{Split}
 use Rattle.wire.specs.Time.{ticksOfDay, hourOf, minuteOf, secondOf, fractionOf, tickAt}
 use Rattle.wire.specs.Words.{timeDigits, wordsOf, wordsOrZero, writable, decimal, field, dayIn, hourIn, minuteIn, secondIn, fractionIn, tickIn, inRange, digitsRefusal, readDigits, timeRead}
-use Rattle.wire.proofs.digits.Laws.{and-left, and-right, and-assoc, and-true, below-at, below-both, mod-div, mod-mod-mul, digits-split, digits-mod-pow, num-append, written}
+use Rattle.wire.proofs.digits.Laws.{and-left, and-right, and-assoc, and-true, below-at, below-both, mod-div, mod-mod-mul, digits-split, digits-mod-pow, num-append, written, packed-length}
 
 -- what `writable` tests
 pub writable-day : (day tick : ℕ) → writable day tick ≡ true → (1 ≤ day) × (day ≤ 366)
@@ -280,3 +280,8 @@ module _ (ds : List ℕ) where
   pub read-done : decimal ds ≡ true → range ≡ true → readDigits ds ≡ timeRead 0 (dayIn ds) (tickIn ds)
   unfolding readDigits digitsRefusal
   read-done e f = simp (e, f)
+
+-- there are five of them
+pub words-five : (day tick : ℕ) → length (wordsOf day tick) ≡ 5
+unfolding wordsOf
+words-five day tick = packed-length 16 4 5 (timeDigits day tick)

@@ -9,10 +9,11 @@ use native.Mathlib.Omega.{arith}
 use lib.Dec.{leb, eqb, lit<, lit≤}
 use lib.ListN.{length, take, drop, replicate, length-drop}
 use lib.Seq.{length-take-le}
-use borrow.Author.Tests.{lt-ltb, le-leb, leb-true, eqb-true, not-false}
+use borrow.Author.Tests.{lt-ltb, le-leb, leb-true, eqb-true, ne-eqb, not-false}
 use Rattle.wire.specs.declared.words.TimeRead.{TimeRead}
+use Rattle.wire.specs.declared.words.WordsWritten.{WordsWritten}
 use Rattle.wire.specs.Digits.{pick, digits, num, below, packed, unpacked}
-use Rattle.wire.specs.Numbers.{_if_}
+use Rattle.wire.specs.Numbers.{_if_, given}
 use Rattle.wire.proofs.numbers.Laws.{given-zero, quiet-first}
 use Rattle.wire.specs.Time.{ticksOfDay, hourOf, minuteOf, secondOf, fractionOf, tickAt}
 use Rattle.wire.specs.Words.{timeDigits, wordsOf, writable, decimal, field, dayIn, hourIn, minuteIn, secondIn, fractionIn, tickIn, inRange, digitsRefusal, readDigits, timeRead, readWords, zeroWords, wordsOrZero, writeWords}
@@ -204,6 +205,27 @@ pub words-differ : (d t d′ t′ : ℕ) → writeWords d t .number ≡ 0 → wr
 words-differ d t d′ t′ w w′ e =
     let q : timeRead 0 d t ≡ timeRead 0 d′ t′ = sym (read-back d t w) ∙ ap readWords e ∙ read-back d′ t′ w′ in
     (ap (λ (r : TimeRead). r .day) q, ap (λ (r : TimeRead). r .tick .ticks) q)
+
+-- their numbers are those of their tables, and beside a refusal stand zeros
+pub read-number : (ws : List ℕ) → readWords ws .number ≡ digitsRefusal (unpacked 16 4 ws)
+unfolding readWords readDigits
+read-number ws = go (digitsRefusal (unpacked 16 4 ws)) _ _ (eqb (digitsRefusal (unpacked 16 4 ws)) 0) refl
+  where
+    go : (n d t : ℕ) (b : Bool) → eqb n 0 ≡ b → pick b (timeRead 0 d t) (timeRead n 0 0) .number ≡ n
+    go n d t true e = sym (eqb-true n 0 e)
+    go n d t false e = refl
+
+pub read-zeros : (ws : List ℕ) → (readWords ws .number ≡ 0 → ⊥) → readWords ws ≡ timeRead (digitsRefusal (unpacked 16 4 ws)) 0 0
+unfolding readWords readDigits
+read-zeros ws h = simp (ne-eqb (digitsRefusal (unpacked 16 4 ws)) 0 (λ e. h (read-number ws ∙ e)))
+
+pub write-zeros : (day tick : ℕ) → (writeWords day tick .number ≡ 0 → ⊥) → writeWords day tick ≡ record { number = 11; words = zeroWords }
+unfolding writeWords wordsOrZero
+write-zeros day tick = go (writable day tick)
+  where
+    go : (t : Bool) → (given (11 if not t ∷ []) ≡ 0 → ⊥) → _≡_ {A = WordsWritten} (record { number = given (11 if not t ∷ []); words = pick t (wordsOf day tick) zeroWords }) (record { number = 11; words = zeroWords })
+    go true h = absurd (h refl)
+    go false h = refl
 
 -- five zero words are no time
 pub zero-unread : readWords zeroWords .number ≡ 11
