@@ -11,6 +11,11 @@ use card::waiting::Waited;
 use card::waiting::WaitedCard;
 use card::waiting::wait;
 use card::waiting::wait_in_place;
+use cases::byte_at;
+use cases::long_at;
+use cases::number_at;
+use cases::short_at;
+use cases::ticks_at;
 use clock::clock::Clock;
 use clock::clock::Periodic;
 use clock::setting::Dividers;
@@ -26,57 +31,6 @@ ghost use Rattle.card.specs.Waiting.{wait, rowWaited};
 
 // What stands in a place before a wait: no record is 7, which would be one of no ticks.
 const UNTOUCHED: u64 = 7;
-
-// THE ARGUMENTS OF A CALL
-
-// The spaces met with one more byte; more than ninety-nine count as these.
-fn spaces_with(spaces: usize, b: u8) -> usize {
-    if b == b' ' {
-        if spaces < 99 {
-            return spaces + 1;
-        }
-    }
-    spaces
-}
-
-// A number with one more decimal digit.
-fn number_with(n: u64, b: u8) -> u64 {
-    if b == b' ' {
-        return n;
-    }
-    n % 1_000_000_000_000 * 10 + ((b % 16) as u64)
-}
-
-// The number behind so many spaces; 0 where there is none.
-fn number_at(text: &[u8], place: usize) -> u64 {
-    let mut spaces: usize = 0;
-    let mut n: u64 = 0;
-    for i in 0..text.len() {
-        spaces = spaces_with(spaces, text[i]);
-        if spaces == place {
-            n = number_with(n, text[i]);
-        }
-    }
-    n
-}
-
-fn byte_at(text: &[u8], place: usize) -> u8 {
-    (number_at(text, place) % 256) as u8
-}
-
-fn short_at(text: &[u8], place: usize) -> u16 {
-    (number_at(text, place) % 65_536) as u16
-}
-
-fn long_at(text: &[u8], place: usize) -> u32 {
-    (number_at(text, place) % 4_294_967_296) as u32
-}
-
-fn ticks_at(text: &[u8], place: usize) -> Ticks {
-    Ticks {
-        ticks: number_at(text, place),
-    }
-}
 
 // Places to lend, of the ten that there are.
 fn places_at(text: &[u8], place: usize) -> usize

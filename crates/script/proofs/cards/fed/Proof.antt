@@ -1,10 +1,10 @@
--- `fed` is safe and ends: it counts the bytes up once, and there are at most 64.
+-- `cards::fed` is safe and ends: it counts the bytes up once, and there are at most 64.
 -- Assumes nothing.
 use Prim.Native.Nat.{_≤_, _-_}
 use native.Mathlib.Omega.{arith}
 use borrow.Author.Needs.{needs}
-use Rattle.refusals.proofs.fed.Statement.{statement}
-use Rattle.refusals.proofs.fed.Tie as tie
+use Rattle.script.proofs.cards.fed.Statement.{statement}
+use Rattle.script.proofs.cards.fed.Tie as tie
 
 abbrev Inv-loop : tie.InvT-loop
 Inv-loop text count c₀ i₀ c i = (i ≤ count) × (count ≤ 64)

@@ -1,12 +1,12 @@
--- `run` is safe and ends: it goes through the lines once, and takes a part of them only where that part starts no later than it ends.
+-- `run_lines` is safe and ends: it goes through the lines once, and takes a part of them only where that part starts no later than it ends.
 -- Assumes nothing.
 use Prim.Native.Nat.{_≤_, _-_}
 use mathlib.Core.Path.{_≡_}
 use native.Mathlib.Omega.{arith}
 use lib.ListN.{length}
 use borrow.Author.Needs.{needs}
-use Rattle.refusals.proofs.run.Statement.{statement}
-use Rattle.refusals.proofs.run.Tie as tie
+use Rattle.script.proofs.run_lines.Statement.{statement}
+use Rattle.script.proofs.run_lines.Tie as tie
 
 abbrev Inv-loop : tie.InvT-loop
 Inv-loop lines card₀ from₀ bar₀ i₀ i-end card from bar i = (i ≤ i-end) × (i-end ≡ length lines)
@@ -62,8 +62,8 @@ loop-again c = omega arith
 returns : tie.Need-returns Inv-loop μ-loop
 returns c = search needs
 
-pub run-spec : {M : Type 1} → statement M
-run-spec =
+pub run-lines-spec : {M : Type 1} → statement M
+run-lines-spec =
     tie.close
     (tie.spec
     Inv-loop

@@ -1,10 +1,10 @@
--- `put_bytes` is safe and ends: it counts the twelve places up once.
+-- `telling::put_bytes` is safe and ends: it counts the twelve places up once.
 -- Assumes nothing.
 use Prim.Native.Nat.{_≤_, _-_}
 use native.Mathlib.Omega.{arith}
 use borrow.Author.Needs.{needs}
-use Rattle.refusals.proofs.put_bytes.Statement.{statement}
-use Rattle.refusals.proofs.put_bytes.Tie as tie
+use Rattle.script.proofs.telling.put_bytes.Statement.{statement}
+use Rattle.script.proofs.telling.put_bytes.Tie as tie
 
 abbrev Inv-loop : tie.InvT-loop
 Inv-loop row i₀ i = i ≤ 12

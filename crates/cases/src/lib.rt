@@ -1,0 +1,94 @@
+// A call as a line of cases writes it: a letter, and decimal numbers, each behind a space.
+//
+// What is proved: the number behind so many spaces is what the definitions in specs/ read there, for every text.
+use wire::time::Ticks;
+ghost use mathlib.Core.Path.{_≡_};
+ghost use Prim.Native.Nat.{_-_, _%_};
+ghost use mathlib.Core.Bool.{_&&_};
+ghost use lib.Dec.{eqb};
+ghost use Rattle.wire.specs.Digits.{pick};
+ghost use Rattle.cases.specs.Numbers.{withDigit, numberAt};
+
+// A number with one more digit.
+fn with_digit(n: u64, b: u8) -> u64
+    ensures { λ r. ⌜ r ≡ withDigit n b ⌝ }
+{
+    n % 1_000_000_000_000 * 10 + ((b % 16) as u64)
+}
+
+// Whether a byte ends the number looked for, with so many spaces to come before it.
+fn is_end(left: usize, b: u8) -> bool
+    ensures { λ r. ⌜ r ≡ (eqb left 0 && eqb b 32) ⌝ }
+{
+    if left == 0 {
+        return b == 32;
+    }
+    false
+}
+
+// The number with a byte that belongs to it; any other leaves it.
+fn number_on(n: u64, left: usize, b: u8) -> u64
+    ensures { λ r. ⌜ r ≡ pick (eqb left 0) (withDigit n b) n ⌝ }
+{
+    if left == 0 {
+        return with_digit(n, b);
+    }
+    n
+}
+
+// The spaces to come after a byte that is not the number's end.
+fn left_on(left: usize, b: u8) -> usize
+    ensures { λ r. ⌜ r ≡ pick (eqb b 32) (left - 1) left ⌝ }
+{
+    if b == 32 {
+        if left != 0 {
+            return left - 1;
+        }
+    }
+    left
+}
+
+// The number behind so many spaces; 0 where there is none.
+pub fn number_at(text: &[u8], place: usize) -> u64
+    ensures { λ r. ⌜ r ≡ numberAt place (now (text .entry)) ⌝ }
+{
+    let mut left = place;
+    let mut n: u64 = 0;
+    let mut i: usize = 0;
+    while i < text.len() {
+        let b = text[i];
+        if is_end(left, b) {
+            return n;
+        }
+        n = number_on(n, left, b);
+        left = left_on(left, b);
+        i += 1;
+    }
+    n
+}
+
+pub fn byte_at(text: &[u8], place: usize) -> u8
+    ensures { λ r. ⌜ r ≡ numberAt place (now (text .entry)) % 256 ⌝ }
+{
+    (number_at(text, place) % 256) as u8
+}
+
+pub fn short_at(text: &[u8], place: usize) -> u16
+    ensures { λ r. ⌜ r ≡ numberAt place (now (text .entry)) % 65536 ⌝ }
+{
+    (number_at(text, place) % 65_536) as u16
+}
+
+pub fn long_at(text: &[u8], place: usize) -> u32
+    ensures { λ r. ⌜ r ≡ numberAt place (now (text .entry)) % 4294967296 ⌝ }
+{
+    (number_at(text, place) % 4_294_967_296) as u32
+}
+
+pub fn ticks_at(text: &[u8], place: usize) -> Ticks
+    ensures { λ r. ⌜ r .ticks ≡ numberAt place (now (text .entry)) ⌝ }
+{
+    Ticks {
+        ticks: number_at(text, place),
+    }
+}

@@ -1,0 +1,216 @@
+// The calls: what each gives back is told, and the card that it leaves goes on.
+use crate::cards::changed;
+use crate::cards::fed;
+use crate::cards::five_at;
+use crate::cards::format_of;
+use crate::cards::modulation_of;
+use crate::cards::offset_of;
+use crate::telling::put;
+use crate::telling::put_bool;
+use crate::telling::put_byte;
+use crate::telling::put_bytes;
+use crate::telling::put_card;
+use crate::telling::put_short;
+use crate::telling::put_words;
+use card::card::Answer;
+use card::card::Card;
+use card::registers::input_edge;
+use card::registers::interrupt_line;
+use card::registers::read_register;
+use card::registers::write_register;
+use card::reset::fresh_card;
+use card::reset::reset;
+use card::saved::load;
+use card::saved::save;
+use card::setting::set_periodic;
+use card::setting::set_strobe;
+use card::setting::set_time;
+use card::waiting::wait;
+use cases::byte_at;
+use cases::long_at;
+use cases::number_at;
+use cases::short_at;
+use cases::ticks_at;
+use clock::setting::Dividers;
+use clock::setting::StrobeAt;
+use wire::packets::ClockSource;
+use wire::packets::Generator;
+use wire::packets::Packet;
+use wire::packets::write_packet;
+use wire::time::Ticks;
+use wire::words::read_words;
+use wire::words::write_words;
+ghost use Prim.Native.Nat.{_≤_};
+
+// The first number, but at most so many.
+fn count_at(text: &[u8], most: usize) -> usize
+    ensures { λ r. ⌜ r ≤ most ⌝ }
+{
+    let n = (number_at(text, 1) % 100) as usize;
+    if n < most { n } else { most }
+}
+
+fn told(a: Answer) -> Card {
+    put_byte(a.number);
+    let c = a.card;
+    c
+}
+
+fn told_time(card: Card, text: &[u8]) -> Card {
+    let year = short_at(text, 1);
+    let day = short_at(text, 2);
+    let hour = short_at(text, 3);
+    let minute = short_at(text, 4);
+    let second = short_at(text, 5);
+    told(set_time(card, year, day, hour, minute, second))
+}
+
+fn daily(text: &[u8]) -> StrobeAt {
+    StrobeAt::Daily {
+        hour: short_at(text, 1),
+        minute: short_at(text, 2),
+        second: short_at(text, 3),
+        ms: short_at(text, 4),
+    }
+}
+
+fn told_reading(card: Card, reg: u8) -> Card {
+    let v = read_register(card, reg);
+    put_byte(v.number);
+    put_short(v.value);
+    let c = v.card;
+    c
+}
+
+fn told_line(card: Card) -> Card {
+    let l = interrupt_line(card);
+    put_byte(l.number);
+    put_bool(l.up);
+    put_byte(l.level);
+    put_byte(l.vector);
+    card
+}
+
+// Two places, of which so many are lent.
+fn told_wait(card: Card, text: &[u8]) -> Card {
+    let mut row = [7u64; 2];
+    let from: usize = 0;
+    let places = count_at(text, 2);
+    let w = wait(card, ticks_at(text, 2), &mut row[from..places]);
+    let waited = w.waited;
+    put_byte(waited.number);
+    put(waited.passed.ticks);
+    put(waited.written as u64);
+    put(row[0]);
+    put(row[1]);
+    let c = w.card;
+    c
+}
+
+// Twelve places, of which so many are lent.
+fn told_save(card: Card, text: &[u8]) -> Card {
+    let mut row = [7u8; 12];
+    let from: usize = 0;
+    let places = count_at(text, 12);
+    put_byte(save(card, &mut row[from..places]));
+    put_bytes(&row);
+    card
+}
+
+fn told_load(card: Card, text: &[u8]) -> Card {
+    let a = byte_at(text, 2);
+    let b = byte_at(text, 3);
+    let c = byte_at(text, 4);
+    let d = byte_at(text, 5);
+    let e = byte_at(text, 6);
+    let row = [a, b, c, d, e, 0];
+    let from: usize = 0;
+    let count = count_at(text, 6);
+    told(load(card, &row[from..count]))
+}
+
+fn told_packet(p: Packet, places: usize)
+    requires { ⌜ places ≤ 12 ⌝ }
+{
+    let mut row = [7u8; 12];
+    let from: usize = 0;
+    let w = write_packet(p, &mut row[from..places]);
+    put_byte(w.number);
+    put(w.bytes as u64);
+    put_bytes(&row);
+}
+
+fn told_words(day: u16, tick: Ticks) {
+    let w = write_words(day, tick);
+    put_byte(w.number);
+    let words = w.words;
+    put_words(words);
+}
+
+fn told_reading_of(words: [u16; 5]) {
+    let t = read_words(words);
+    put_byte(t.number);
+    put_short(t.day);
+    put(t.tick.ticks);
+}
+
+fn packet_of(call: u8, text: &[u8]) -> Packet {
+    match call {
+        b'A' => Packet::A(byte_at(text, 2)),
+        b'G' => Packet::G(offset_of(byte_at(text, 2))),
+        b'H' => Packet::H(format_of(byte_at(text, 2)), modulation_of(byte_at(text, 3))),
+        b'J' => Packet::I(ClockSource::External),
+        _ => Packet::K(Generator::H),
+    }
+}
+
+// Words and packets alone.
+fn called_alone(call: u8, text: &[u8]) {
+    match call {
+        b'f' => told_words(short_at(text, 1), ticks_at(text, 2)),
+        b'g' => told_reading_of(five_at(text)),
+        _ => told_packet(packet_of(call, text), count_at(text, 12)),
+    }
+}
+
+fn called_clock(call: u8, card: Card, text: &[u8]) -> Card {
+    match call {
+        b't' => told_time(card, text),
+        b'd' => told(set_periodic(card, Dividers::By(long_at(text, 1), long_at(text, 2)))),
+        b'q' => told(set_periodic(card, Dividers::Off)),
+        b's' => told(set_strobe(card, StrobeAt::EachSecond(short_at(text, 1)))),
+        b'a' => told(set_strobe(card, daily(text))),
+        b'z' => told(set_strobe(card, StrobeAt::Off)),
+        b'n' => told_wait(card, text),
+        _ => changed(call, card, text),
+    }
+}
+
+fn called_card(call: u8, card: Card, text: &[u8]) -> Card {
+    match call {
+        b'r' => told_reading(card, byte_at(text, 1)),
+        b'w' => told(write_register(card, byte_at(text, 1), short_at(text, 2))),
+        b'e' => told(input_edge(card, byte_at(text, 1) == 1)),
+        b'l' => told_line(card),
+        b'x' => told(reset(card)),
+        b'p' => told_save(card, text),
+        b'o' => told_load(card, text),
+        _ => called_clock(call, card, text),
+    }
+}
+
+pub fn called(call: u8, card: Card, text: &[u8]) -> Card {
+    match call {
+        b'A' | b'G' | b'H' | b'J' | b'K' | b'f' | b'g' => {
+            called_alone(call, text);
+            card
+        }
+        b'v' => {
+            put_card(card);
+            card
+        }
+        b'N' => fresh_card(),
+        b'F' => fed(card, text, count_at(text, 64)),
+        _ => called_card(call, card, text),
+    }
+}
