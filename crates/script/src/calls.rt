@@ -10,6 +10,7 @@ use crate::telling::put_bool;
 use crate::telling::put_byte;
 use crate::telling::put_bytes;
 use crate::telling::put_card;
+use crate::telling::put_row;
 use crate::telling::put_short;
 use crate::telling::put_words;
 use card::card::Answer;
@@ -25,7 +26,10 @@ use card::saved::save;
 use card::setting::set_periodic;
 use card::setting::set_strobe;
 use card::setting::set_time;
+use card::waiting::Waited;
+use card::waiting::WaitedCard;
 use card::waiting::wait;
+use card::waiting::wait_in_place;
 use cases::byte_at;
 use cases::long_at;
 use cases::number_at;
@@ -41,6 +45,12 @@ use wire::time::Ticks;
 use wire::words::read_words;
 use wire::words::write_words;
 ghost use Prim.Native.Nat.{_≤_};
+ghost use mathlib.Core.Path.{_≡_};
+ghost use lib.ListN.{length};
+ghost use Rattle.card.specs.Waiting.{wait, rowWaited};
+
+// What stands in a place before a wait: no record is 7, which would be one of no ticks.
+const UNTOUCHED: u64 = 7;
 
 // The first number, but at most so many.
 fn count_at(text: &[u8], most: usize) -> usize
@@ -91,20 +101,49 @@ fn told_line(card: Card) -> Card {
     card
 }
 
-// Two places, of which so many are lent.
-fn told_wait(card: Card, text: &[u8]) -> Card {
-    let mut row = [7u64; 2];
-    let from: usize = 0;
-    let places = count_at(text, 2);
-    let w = wait(card, ticks_at(text, 2), &mut row[from..places]);
+fn told_waited(w: WaitedCard, row: &[u64; 10]) -> Card {
     let waited = w.waited;
     put_byte(waited.number);
     put(waited.passed.ticks);
     put(waited.written as u64);
-    put(row[0]);
-    put(row[1]);
+    put_row(row);
     let c = w.card;
     c
+}
+
+// Ten places, of which so many are lent.
+fn told_wait(card: Card, text: &[u8]) -> Card {
+    let mut row = [UNTOUCHED; 10];
+    let from: usize = 0;
+    let places = count_at(text, 10);
+    let w = wait(card, ticks_at(text, 2), &mut row[from..places]);
+    told_waited(w, &row)
+}
+
+// The card and the answer of a wait in place, as a wait by value gives them.
+fn beside(card: Card, waited: Waited) -> WaitedCard
+    ensures { λ r. ⌜ (r .card ≡ card) × (r .waited ≡ waited) ⌝ }
+{
+    WaitedCard {
+        card: card,
+        waited: waited,
+    }
+}
+
+// The wait in place, of a card that is lent to it: it gives what the wait by value gives.
+fn in_place(mut card: Card, ticks: Ticks, row: &mut [u64]) -> WaitedCard
+    ensures { λ r. ⌜ (r ≡ wait card (ticks .ticks) (length (now (row .entry)))) × (now (row .exit) ≡ rowWaited card (ticks .ticks) (now (row .entry))) ⌝ }
+{
+    let waited = wait_in_place(&mut card, ticks, row);
+    beside(card, waited)
+}
+
+fn told_wait_in_place(card: Card, text: &[u8]) -> Card {
+    let mut row = [UNTOUCHED; 10];
+    let from: usize = 0;
+    let places = count_at(text, 10);
+    let w = in_place(card, ticks_at(text, 2), &mut row[from..places]);
+    told_waited(w, &row)
 }
 
 // Twelve places, of which so many are lent.
@@ -182,6 +221,7 @@ fn called_clock(call: u8, card: Card, text: &[u8]) -> Card {
         b'a' => told(set_strobe(card, daily(text))),
         b'z' => told(set_strobe(card, StrobeAt::Off)),
         b'n' => told_wait(card, text),
+        b'i' => told_wait_in_place(card, text),
         _ => changed(call, card, text),
     }
 }

@@ -13,12 +13,13 @@ use card::reset::fresh_card;
 use libc::STDIN_FILENO;
 use libc::STDOUT_FILENO;
 
-// A line's words are written, and behind them what its call gives back. A line without words only changes the card.
+// A line's words are written, and behind them what its call gives back. A line without words only changes the card; one without a call is only said.
 fn line(card: Card, words: &[u8], text: &[u8]) -> Card {
+    io::write_all(STDOUT_FILENO, words);
     if text.len() == 0 {
+        io::write_all(STDOUT_FILENO, b"\n");
         return card;
     }
-    io::write_all(STDOUT_FILENO, words);
     let c = called(text[0], card, text);
     if words.len() != 0 {
         io::write_all(STDOUT_FILENO, b"\n");

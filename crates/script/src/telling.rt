@@ -34,6 +34,12 @@ pub fn put_bytes(row: &[u8; 12]) {
     }
 }
 
+pub fn put_row(row: &[u64; 10]) {
+    for i in 0..10 {
+        put(row[i]);
+    }
+}
+
 pub fn put_words(words: [u16; 5]) {
     put_short(words[0]);
     put_short(words[1]);

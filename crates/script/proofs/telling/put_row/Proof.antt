@@ -1,10 +1,10 @@
--- `put_row` is safe and ends: it counts the ten places up once.
+-- `telling::put_row` is safe and ends: it counts the ten places up once.
 -- Assumes nothing.
 use Prim.Native.Nat.{_≤_, _-_}
 use native.Mathlib.Omega.{arith}
 use borrow.Author.Needs.{needs}
-use Rattle.waits.proofs.put_row.Statement.{statement}
-use Rattle.waits.proofs.put_row.Tie as tie
+use Rattle.script.proofs.telling.put_row.Statement.{statement}
+use Rattle.script.proofs.telling.put_row.Tie as tie
 
 abbrev Inv-loop : tie.InvT-loop
 Inv-loop row i₀ i = i ≤ 10
@@ -15,14 +15,14 @@ abbrev μ-loop : tie.MeasureT-loop
 loop-holds : tie.Need-loop-holds Inv-loop μ-loop
 loop-holds c = omega arith
 
-mul-put-place : tie.Need-mul-put-place Inv-loop μ-loop
-mul-put-place c = omega arith
+mul-put : tie.Need-mul-put Inv-loop μ-loop
+mul-put c = omega arith
 
-element-copy-out-put-place : tie.Need-element-copy-out-put-place Inv-loop μ-loop
-element-copy-out-put-place c = omega arith
+element-copy-out-put : tie.Need-element-copy-out-put Inv-loop μ-loop
+element-copy-out-put c = omega arith
 
-put-place-requires : tie.Need-put-place-requires Inv-loop μ-loop
-put-place-requires c κs = search needs
+put-requires : tie.Need-put-requires Inv-loop μ-loop
+put-requires c κs = search needs
 
 add-i : tie.Need-add-i Inv-loop μ-loop
 add-i c = omega arith
@@ -43,9 +43,9 @@ put-row-spec =
     Inv-loop
     μ-loop
     loop-holds
-    mul-put-place
-    element-copy-out-put-place
-    put-place-requires
+    mul-put
+    element-copy-out-put
+    put-requires
     add-i
     loop-less
     loop-again
