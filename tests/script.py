@@ -1,0 +1,410 @@
+"""How a script is written, and what the page says of each of its lines: used by refusals.py, registers.py and waits.py.
+
+A line is what is to be said, a bar, and a call: a letter and decimal numbers. A line with no call is only said. Some calls only change the card, and say nothing:
+
+    N a fresh card                        T YEAR DAY TICK                      S KIND MS N1 N2 COUNT (kind 0 off, 1 daily, 2 each second)
+    I MASK PENDING LEVEL VECTOR           E CONTROL and five words             L DONE and five words, of the time latch
+    Q FILL PLACE BYTE                     F COUNT and bytes, written to FIFO   M MODE FORMAT MODULATION CLOCK GENERATOR OFFSET
+
+Behind the others stand their number and what else they give back:
+
+    r REGISTER   w REGISTER VALUE   e FALLING   l the line   x reset   p PLACES (save)   o COUNT and bytes (load)   t YEAR DAY HOUR MINUTE SECOND
+    d N1 N2   q periodic off   s MS   a HOUR MINUTE SECOND MS   z strobe off   n PLACES TICKS (wait)   i PLACES TICKS (wait in place)
+    f DAY TICK   g 0 and five words   A PLACES MODE   G PLACES OFFSET   H PLACES FORMAT MODULATION   J PLACES (I with E)   K PLACES (K with H)
+    v what stands in the card
+
+Formats are A, B, C, N, X as 0 to 4; modulation D, clock external and generator H are 1; an offset is its place in OFFSETS. Lent places, ten for a wait and twelve for
+bytes, hold 7 before. A card is shown as year, day and tick; strobe, 0 or its kind and milliseconds; periodic, 0 or n1, n2 and count; mask, pending, level, vector;
+CONTROL and the event latch; the time latch; mode, format, modulation, clock, generator, minus, size of the offset; done; the queue's fill; and each of its 64 bytes that
+is not 0, as place:byte.
+
+The answers are worked out here from the page; nothing of crates/ is read. What a wait lists is found by going through its window tick by tick.
+"""
+import functools
+
+from listing import answer
+
+DAY = 864_000_000_000
+SECOND = 10_000_000
+MILLISECOND = 10_000
+OFFSETS = (0, 25_000, 9_999_999, -9_999_999, 10_000_000, -10_000_000, 2_147_483_647, -2_000_000_000)
+FORBIDDEN = ((0, 0), (2, 1), (4, 1))        # A with M, C with D, X with D
+ZEROS = (0, 0, 0, 0, 0)
+WAIT_PLACES, BYTE_PLACES, UNTOUCHED = 10, 12, 7
+
+
+def days_in(year):
+    return 366 if year % 4 == 0 else 365
+
+
+def read_words(words):
+    """(number, day, tick) of five words."""
+    d = [w // 16 ** (3 - k) % 16 for w in words for k in range(4)]
+    if any(d[:3]) or d[19] or any(digit > 9 for digit in d):
+        return 17, 0, 0
+    day, hour = int("%d%d%d" % tuple(d[3:6])), d[6] * 10 + d[7]
+    minute, second = d[8] * 10 + d[9], d[10] * 10 + d[11]
+    if not 1 <= day <= 366 or hour > 23 or minute > 59 or second > 59:
+        return 11, 0, 0
+    return 0, day, ((hour * 60 + minute) * 60 + second) * SECOND + int("".join(map(str, d[12:19])))
+
+
+def write_words(day, tick):
+    """(number and five words) of a day and a tick of day."""
+    if not 1 <= day <= 366 or tick >= DAY:
+        return (11,) + ZEROS
+    seconds, fraction = divmod(tick, SECOND)
+    clock = "%02d%02d%02d" % (seconds // 3600, seconds // 60 % 60, seconds % 60)
+    text = "%06d%s%07d0" % (day, clock, fraction)
+    return (0,) + tuple(int(text[k:k + 4], 16) for k in range(0, 20, 4))
+
+
+def write_packet(places, text, number):
+    """A packet's own writing: `number` is what refuses its values."""
+    row = [UNTOUCHED] * BYTE_PLACES
+    packet = b"\x01" + text + b"\x17"
+    if number == 0 and places < len(packet):
+        number = 14
+    if number:
+        return (number, 0, *row)
+    return (0, len(packet), *packet, *row[len(packet):])
+
+
+@functools.cache
+def falls(tick, strobe, period, count, ticks, most):
+    """The ticks of a window on which something falls, each as (ticks since the start, what falls); no more than so many of them."""
+    found = []
+    round_, at = strobe or (1, 1)       # no division by 1 leaves 1
+    for since in range(1, ticks + 1):
+        tick += 1
+        if tick == DAY:
+            tick = 0
+        what = 0
+        if period:
+            count += 1
+            if count == period:
+                count = 0
+                what += 1
+        if tick % round_ == at:
+            what += 2
+        if tick % SECOND == 0:
+            what += 4
+        if what:
+            found.append((since, what))
+            if len(found) == most:
+                break
+    return found
+
+
+class Card:
+    """What the page says of a card. Each call gives its number and its values, of a card that is lawful, and changes it."""
+
+    def __init__(self):
+        self.time = (1, 1, 0)
+        self.strobe, self.periodic = (0,), (0,)     # off; else the kind and milliseconds, and n1, n2 and count
+        self.mask = self.pending = self.level = self.vector = 0
+        self.control, self.event_latch, self.time_latch = 0, ZEROS, ZEROS
+        self.mode, self.form, self.modulation, self.clock, self.generator, self.offset = 0, 1, 0, 0, 0, 0
+        self.done, self.queue, self.fill = 0, [0] * 64, 0
+
+    def lawful(self):
+        year, day, tick = self.time
+        kind, ms = (*self.strobe, 0)[:2]
+        n1, n2, count = self.periodic if len(self.periodic) == 3 else (2, 2, 0)
+        return (1 <= year <= 9999 and 1 <= day <= days_in(year) and tick < DAY
+                and ms < (1, 86_400_000, 1000)[kind]
+                and n1 >= 2 and n2 >= 2 and count < n1 * n2
+                and self.mask < 32 and self.pending < 32 and self.level < 8 and self.control < 4
+                and all(latch == ZEROS or read_words(latch)[0] == 0 for latch in (self.time_latch, self.event_latch))
+                and self.mode in (0, 1, 2, 3, 5, 6) and (self.form, self.modulation) not in FORBIDDEN and abs(self.offset) <= 9_999_999
+                and self.fill <= 64 and not any(self.queue[self.fill:]))
+
+    def shown(self):
+        queued = (f"{place}:{byte}" for place, byte in enumerate(self.queue) if byte)
+        return (*self.time, *self.strobe, *self.periodic, self.mask, self.pending, self.level, self.vector, self.control, *self.event_latch, *self.time_latch,
+                self.mode, self.form, self.modulation, self.clock, self.generator, int(self.offset < 0), abs(self.offset), self.done, self.fill, *queued)
+
+    def words(self):
+        return write_words(*self.time[1:])[1:]
+
+    # registers
+
+    def read(self, register):
+        if register > 17:
+            return 1, 0
+        if register == 13:
+            return 2, 0
+        if register == 0:
+            self.time_latch = self.words()
+            return 0, 0
+        named = (0, *self.time_latch, *self.event_latch, self.control, self.done, 0, self.mask, self.pending, self.level, self.vector)
+        return 0, named[register]
+
+    def write(self, register, value):
+        if register > 17:
+            return (1,)
+        if 1 <= register <= 10:
+            return (2,)
+        if register == 0:
+            self.time_latch = self.words()
+        elif register == 11:
+            self.control = value & 3
+        elif register == 12:
+            return self.acknowledge(value)
+        elif register == 13:
+            if self.fill == 64:
+                return (3,)
+            self.queue[self.fill] = value & 0xFF
+            self.fill += 1
+        elif register == 14:
+            self.mask = value & 0x1F
+        elif register == 15:
+            self.pending &= ~value
+        elif register == 16:
+            self.level = value & 7
+        else:
+            self.vector = value & 0xFF
+        return (0,)
+
+    def acknowledge(self, value):
+        if value & 1:
+            self.done = 0
+        if not value & 0x80:
+            return (0,)
+        piece = bytes(self.queue[:self.fill])
+        number = answer(piece)
+        if number == 0:
+            self.take(piece[1:2], piece[2:piece.index(0x17)].decode())
+        self.queue, self.fill, self.done = [0] * 64, 0, int(number == 0)
+        return (number,)
+
+    def take(self, ident, said):
+        if ident == b"A":
+            self.mode = int(said)
+        elif ident == b"G":
+            self.offset = int(said)
+        elif ident == b"H":
+            self.form, self.modulation = "ABCNX".index(said[0]), "MD".index(said[1])
+        elif ident == b"I":
+            self.clock = int(said == "E")
+        else:
+            self.generator = int(said == "H")
+
+    def edge(self, falling):
+        if self.control == (3 if falling else 1):
+            self.event_latch = self.words()
+            self.pending |= 1
+        return (0,)
+
+    def line(self):
+        return (0, 1, self.level, self.vector) if self.level and self.mask & self.pending else (0, 0, 0, 0)
+
+    # reset, and saved settings
+
+    def reset(self):
+        kept = self.time, self.mode, self.form, self.modulation, self.generator
+        self.__init__()
+        self.time, self.mode, self.form, self.modulation, self.generator = kept
+        return (0,)
+
+    def saved(self):
+        bits = f"{self.mode:03b}{self.form:03b}{self.modulation}{self.clock}{self.generator}{int(self.offset < 0)}{abs(self.offset):024b}000000"
+        return tuple(int(bits[k:k + 8], 2) for k in range(0, 40, 8))
+
+    def save(self, places):
+        if places < 5:
+            return (14,) + (UNTOUCHED,) * BYTE_PLACES
+        return (0, *self.saved(), *[UNTOUCHED] * (BYTE_PLACES - 5))
+
+    def load(self, count, *form):
+        bits = "".join(f"{byte:08b}" for byte in form[:count])
+        if count != 5:
+            return (19,)
+        mode, kind, modulation = int(bits[:3], 2), int(bits[3:6], 2), int(bits[6])
+        minus, size = int(bits[9]), int(bits[10:34], 2)
+        if mode in (4, 7) or kind > 4 or (kind, modulation) in FORBIDDEN or size > 9_999_999 or (minus and size == 0) or "1" in bits[34:]:
+            return (19,)
+        self.mode, self.form, self.modulation, self.clock, self.generator = mode, kind, modulation, int(bits[7]), int(bits[8])
+        self.offset = -size if minus else size
+        return (0,)
+
+    # time, strobe, periodic output
+
+    def set_time(self, year, day, hour, minute, second):
+        if not (1 <= year <= 9999 and 1 <= day <= days_in(year) and hour < 24 and minute < 60 and second < 60):
+            return (11,)
+        self.time = (year, day, ((hour * 60 + minute) * 60 + second) * SECOND)
+        return (0,)
+
+    def set_periodic(self, n1, n2):
+        if not (2 <= n1 <= 65_535 and 2 <= n2 <= 65_535):
+            return (12,)
+        self.periodic = (n1, n2, 0)
+        return (0,)
+
+    def no_periodic(self):
+        self.periodic = (0,)
+        return (0,)
+
+    def each_second(self, ms):
+        if ms > 999:
+            return (13,)
+        self.strobe = (2, ms)
+        return (0,)
+
+    def daily(self, hour, minute, second, ms):
+        if not (hour < 24 and minute < 60 and second < 60 and ms < 1000):
+            return (13,)
+        self.strobe = (1, ((hour * 60 + minute) * 60 + second) * 1000 + ms)
+        return (0,)
+
+    def no_strobe(self):
+        self.strobe = (0,)
+        return (0,)
+
+    # waiting
+
+    def ticks_left(self):
+        """Up to the last tick of year 9999, counted in days."""
+        year, day, tick = self.time
+        days = sum(days_in(y) for y in range(year + 1, 10_000)) + days_in(year) - day
+        return days * DAY + DAY - 1 - tick
+
+    def pass_(self, ticks):
+        """So many ticks later, a day at most."""
+        year, day, tick = self.time
+        tick += ticks
+        if tick >= DAY:
+            tick, day = tick - DAY, day + 1
+        if day > days_in(year):
+            year, day = year + 1, 1
+        self.time = (year, day, tick)
+        if len(self.periodic) == 3:
+            n1, n2, count = self.periodic
+            self.periodic = (n1, n2, (count + ticks) % (n1 * n2))
+
+    def wait(self, places, ticks):
+        number = 15 if ticks > DAY else 14 if places == 0 else 16 if ticks > self.ticks_left() else 0
+        records, passed = [], 0
+        if number == 0:
+            n1, n2, count = self.periodic if len(self.periodic) == 3 else (0, 0, 0)
+            strobe = {0: None, 1: (DAY, self.strobe[-1] * MILLISECOND), 2: (SECOND, self.strobe[-1] * MILLISECOND)}[self.strobe[0]]
+            found = falls(self.time[2], strobe, n1 * n2, count, ticks, places + 1)
+            passed = ticks if len(found) <= places else found[places - 1][0]
+            for since, what in found[:places]:
+                records.append(8 * since + what)
+                self.pending |= what * 2        # the record's 1, 2 and 4 are the pending bits 1, 2 and 3
+            self.pass_(passed)
+        return (number, passed, len(records), *(records + [UNTOUCHED] * WAIT_PLACES)[:WAIT_PLACES])
+
+
+# letter -> the call of a card, the values that a refusal by 18 gives back beside its number, and the call in words
+BESIDE_WAIT = (0, 0) + (UNTOUCHED,) * WAIT_PLACES
+CALLS = {
+    "r": (Card.read, (0,), "read register {}"),
+    "w": (Card.write, (), "write register {} with {:#06x}"),
+    "e": (Card.edge, (), "input edge"),
+    "l": (Card.line, (0, 0, 0), "interrupt line"),
+    "x": (Card.reset, (), "reset"),
+    "p": (Card.save, (UNTOUCHED,) * BYTE_PLACES, "save into {} places"),
+    "o": (Card.load, (), "load {} bytes"),
+    "t": (Card.set_time, (), "set time {} {} {} {} {}"),
+    "d": (Card.set_periodic, (), "dividers {} and {}"),
+    "q": (Card.no_periodic, (), "periodic off"),
+    "s": (Card.each_second, (), "strobe each second at {} ms"),
+    "a": (Card.daily, (), "strobe daily at {} {} {} {}"),
+    "z": (Card.no_strobe, (), "strobe off"),
+    "n": (Card.wait, BESIDE_WAIT, "wait {1}, {0} places"),
+    "i": (Card.wait, BESIDE_WAIT, "wait in place {1}, {0} places"),
+}
+
+
+def in_words(letter, *numbers):
+    if letter == "e":
+        return "falling edge" if numbers[0] else "rising edge"
+    return CALLS[letter][2].format(*numbers)
+
+
+class Script:
+    """Lines of stdin, and beside them what must be written."""
+
+    def __init__(self):
+        self.asked, self.written, self.card = [], [], Card()
+
+    def ask(self, words, letter, *numbers):
+        self.asked.append(words + "|" + " ".join([letter, *map(str, numbers)]))
+
+    def tell(self, words, values):
+        self.written.append(words + "".join(f" {value}" for value in values))
+
+    def say(self, words):
+        self.asked.append(words + "|")
+        self.written.append(words)
+
+    # cards of any kind
+
+    def fresh(self):
+        self.ask("", "N")
+        self.card = Card()
+
+    def time(self, *three):
+        self.ask("", "T", *three)
+        self.card.time = three
+
+    def sources(self, kind, ms, n1, n2, count):
+        self.ask("", "S", kind, ms, n1, n2, count)
+        self.card.strobe, self.card.periodic = ((kind, ms) if kind else (0,)), (n1, n2, count)
+
+    def interrupts(self, *four):
+        self.ask("", "I", *four)
+        self.card.mask, self.card.pending, self.card.level, self.card.vector = four
+
+    def event(self, control, *words):
+        self.ask("", "E", control, *words)
+        self.card.control, self.card.event_latch = control, words
+
+    def latch(self, done, *words):
+        self.ask("", "L", done, *words)
+        self.card.done, self.card.time_latch = done, words
+
+    def settings(self, *six):
+        self.ask("", "M", *six)
+        c = self.card
+        c.mode, c.form, c.modulation, c.clock, c.generator = six[:5]
+        c.offset = OFFSETS[six[5]]
+
+    def queue(self, fill, place, byte):
+        self.ask("", "Q", fill, place, byte)
+        self.card.queue = [0] * 64
+        self.card.queue[place], self.card.fill = byte, fill
+
+    def feed(self, bytes_):
+        self.ask("", "F", len(bytes_), *bytes_)
+        for byte in bytes_:
+            self.card.write(13, byte)
+
+    # calls
+
+    def call(self, words, letter, *numbers):
+        """The call, with what it gives back; the number is handed on."""
+        words = (words or in_words(letter, *numbers)) + ":"
+        self.ask(words, letter, *numbers)
+        done, beside_18, _ = CALLS[letter]
+        values = done(self.card, *numbers) if self.card.lawful() else (18, *beside_18)
+        self.tell(words, values)
+        return values
+
+    def show(self):
+        self.ask("  the card:", "v")
+        self.tell("  the card:", self.card.shown())
+
+    def alone(self, words, letter, numbers, values):
+        self.ask(words + ":", letter, *numbers)
+        self.tell(words + ":", values)
+
+    def write_files(self, program):
+        """The program reads its input in one piece."""
+        assert sum(len(line) + 1 for line in self.asked) <= 65_536
+        for name, lines in (("stdin", self.asked), ("stdout", self.written)):
+            with open(f"crates/{program}/{name}", "w") as out:
+                out.writelines(line + "\n" for line in lines)
