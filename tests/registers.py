@@ -1,0 +1,221 @@
+#!/usr/bin/env python3
+"""The cases of the program `registers`, and what the page says of each: writes the program's stdin and stdout.
+
+    python3 tests/registers.py            from the root of the repository
+
+Calls that are done, and the whole card after each: what is written is read back, and what no rule names stays. How a line is written, and the page's answers, are in
+script.py.
+"""
+from script import DAY, FORBIDDEN, SECOND, ZEROS, Script, write_words
+
+PAGE_TIME = (2004, 45, 472_291_234_567)
+LATCHED = write_words(366, DAY - 1)[1:]
+STAMPED = write_words(7, 12_345_678)[1:]
+PAIRS = [(form, modulation) for form in range(5) for modulation in range(2) if (form, modulation) not in FORBIDDEN]
+MODES = (0, 1, 2, 3, 5, 6)
+
+
+def everything(s):
+    """A card of which nothing is as on a fresh one, but the event input, which stands on capture of rising edges."""
+    s.fresh()
+    s.time(*PAGE_TIME)
+    s.sources(2, 200, 2000, 3000, 1_234_567)
+    s.interrupts(21, 26, 5, 0xC3)
+    s.event(1, *STAMPED)
+    s.latch(1, *LATCHED)
+    s.settings(6, 0, 1, 1, 1, 3)
+    s.feed(b"\x01\x02\xff")
+    assert s.card.lawful()
+
+
+def do(s, *call, words=""):
+    """A call, and the card after it."""
+    values = s.call(words, *call)
+    s.show()
+    return values
+
+
+def written(s):
+    """Registers that hold bits, read back; and INTSTAT, of which each 1 bit clears."""
+    for register, name in ((11, "CONTROL"), (14, "MASK"), (16, "LEVEL"), (17, "VECTOR")):
+        s.say(name)
+        everything(s)
+        for value in (0xFFFF, 0, 1, 2, 4, 8, 0x10, 0x20, 0x80, 0x100, 0x8000, 0xAAAA, 0x5555):
+            do(s, "w", register, value)
+            s.call("", "r", register)
+    s.say("INTSTAT")
+    everything(s)
+    for pending in (0, 1, 16, 10, 21, 31):
+        for value in (0, 1, 2, 4, 8, 0x10, 0x1F, 0xFFE0, 0xFFFF, 0xAAAA, 0x5555):
+            s.interrupts(21, pending, 5, 0xC3)
+            s.call(f"pending {pending}, write register 15 with {value:#06x}", "w", 15, value)
+            s.call("", "r", 15)
+    s.show()
+    do(s, "w", 15, 0)
+    do(s, "w", 15, 0xFFFF)
+
+
+def line(s):
+    s.say("The line: each pending bit beside each bit of the mask, and each level")
+    everything(s)
+    for mask in range(5):
+        for pending in range(5):
+            s.interrupts(1 << mask, 1 << pending, 3, 0xA5)
+            s.call(f"pending bit {pending}, mask bit {mask}", "l")
+    for level in range(8):
+        s.interrupts(31, 31, level, 255 - level)
+        s.call(f"level {level}", "l")
+    s.show()
+
+
+def time_latch(s):
+    s.say("TIMEREQ, and the words of the latch, which stay while the time goes on")
+    for time in ((1, 1, 0), PAGE_TIME, (2004, 366, DAY - 1), (9999, 100, 36_000_000_000 + 1)):
+        everything(s)
+        s.time(*time)
+        do(s, "r", 0)
+        for register in range(1, 6):
+            s.call("", "r", register)
+        s.time(3, 200, 9 * SECOND)
+        do(s, "r", 1)
+        do(s, "w", 0, 0xFFFF)
+        for register in range(1, 6):
+            s.call("", "r", register)
+        s.call("", "r", 0)
+        s.time(*time)
+        do(s, "w", 0, 0)
+
+
+def edges(s):
+    s.say("Edges: both kinds, with each CONTROL, and bit 0 pending before or not")
+    for control in range(4):
+        for falling in range(2):
+            for pending in (26, 27):
+                everything(s)
+                s.interrupts(0, pending, 5, 0xC3)
+                s.call("", "w", 11, control)
+                do(s, "e", falling)
+                s.call("", "r", 15)
+            for register in range(6, 11):
+                s.call("", "r", register)
+    s.say("A second edge stamps anew, and the latch stays while the time goes on")
+    everything(s)
+    s.call("", "e", 0)
+    s.time(8, 366, 5)
+    s.show()
+    do(s, "e", 0)
+    do(s, "r", 10)
+
+
+def acknowledge(s):
+    s.say("ACK with neither bit, with bit 0, with bit 7, with both; bits that are not named change nothing")
+    for name, bytes_ in (("A 3", b"\x01A3\x17"), ("A 4", b"\x01A4\x17"), ("no packet", b"")):
+        for done in (0, 1):
+            for value in (0, 1, 0x80, 0x81, 0xFF7E, 0xFF7F, 0xFFFE, 0xFFFF):
+                s.fresh()
+                s.latch(done, *LATCHED)
+                s.feed(bytes_)
+                do(s, "w", 12, value, words=f"{name}, done {done}, write register 12 with {value:#06x}")
+                s.call("", "r", 12)
+
+
+def fifo(s):
+    s.say("FIFO: the low byte joins the queue")
+    s.fresh()
+    for value in (0x41, 0, 1, 0x17, 0xFF, 0x100, 0x1FF, 0xFF00, 0xABCD, 0xFFFF):
+        do(s, "w", 13, value)
+    everything(s)
+    s.feed(bytes(range(3, 63)))
+    do(s, "w", 13, 0x2FE)
+    do(s, "w", 13, 0x2FD, words="one byte more than 64")
+
+
+def packets(s):
+    s.say("Every kind of packet that is taken, by a fresh card and by one that has other settings")
+    texts = ([f"A{mode}" for mode in MODES] + [f"G{offset}" for offset in
+             ("+0000000", "-0000000", "+0000001", "-0000001", "+0025000", "-1234567", "+9999999", "-9999999", "+8388608", "-8388607")]
+             + ["H" + "ABCNX"[form] + "MD"[modulation] for form, modulation in PAIRS] + ["IE", "II", "KB", "KH"])
+    for text in texts:
+        packet = b"\x01" + text.encode() + b"\x17"
+        for words, set_up in (("a fresh card", s.fresh), ("another", lambda: everything(s))):
+            set_up()
+            s.call("", "w", 12, 0x80)       # what stood in its queue is no packet
+            s.feed(packet)
+            do(s, "w", 12, 0x80, words=f"{text}, {words}")
+    s.say("Bytes behind the first 0x17 are dropped")
+    s.fresh()
+    s.feed(b"\x01A5\x17\x01A6\x17" + bytes(range(1, 57)))
+    do(s, "w", 12, 0x80)
+    do(s, "w", 12, 0x80)
+
+
+def sources(s):
+    s.say("Time, strobe and periodic output: each changes itself alone")
+    for call in (("t", 1, 1, 0, 0, 0), ("t", 2004, 366, 23, 59, 59), ("t", 9999, 365, 1, 2, 3), ("s", 0), ("s", 999), ("a", 0, 0, 0, 0), ("a", 23, 59, 59, 999), ("a", 13, 7, 9, 123),
+                 ("z",), ("d", 2, 65_535), ("d", 65_535, 2), ("d", 2000, 3000), ("q",)):
+        everything(s)
+        do(s, *call)
+    s.call("", "z")
+    do(s, "z")
+    do(s, "q")
+    do(s, "d", 2, 2)
+
+
+def saved(s):
+    """What one card saves, another card loads; each setting alone is other than on a fresh card."""
+    fresh = (0, 1, 0, 0, 0)
+    alone = ([(mode, *fresh[1:], "+0000000") for mode in MODES] + [(0, form, modulation, 0, 0, "+0000000") for form, modulation in PAIRS]
+             + [(0, 1, 0, 1, 0, "+0000000"), (0, 1, 0, 0, 1, "+0000000"), (0, 1, 0, 1, 1, "+0000000"), (6, 4, 0, 1, 1, "-9999999"), (3, 0, 1, 0, 1, "-0000001")]
+             + [(*fresh, offset) for offset in ("+0000001", "-0000001", "+0025000", "+9999999", "-9999999", "+5592405", "-2796202", "+8388608", "-8388608")])
+    for mode, form, modulation, clock, generator, offset in alone:
+        words = f"mode {mode}, format {'ABCNX'[form]}, modulation {'MD'[modulation]}, clock {'IE'[clock]}, generator {'BH'[generator]}, offset {offset}"
+        s.fresh()
+        s.settings(mode, form, modulation, clock, generator, 0)
+        s.feed(f"\x01G{offset}\x17".encode())
+        s.call("", "w", 12, 0x81)
+        bytes_ = do(s, "p", 5, words=f"save {words}")[1:6]
+        everything(s)
+        do(s, "o", 5, *bytes_, words=f"load {words}")
+        s.call("and save them again, with more places", "p", 12)
+
+
+def resets(s):
+    s.say("Reset: a card of which nothing is as on a fresh one, every register of it afterwards, and a reset again")
+    everything(s)
+    s.show()
+    do(s, "x")
+    for register in range(1, 18):
+        if register != 13:
+            s.call("", "r", register)
+    s.call("", "l")
+    do(s, "x")
+    s.say("Reset: what stays of each mode, pair and generator")
+    for mode in MODES:
+        everything(s)
+        s.settings(mode, 1, 0, 1, 0, 2)
+        do(s, "x")
+    for form, modulation in PAIRS:
+        everything(s)
+        s.settings(5, form, modulation, 1, 1, 1)
+        do(s, "x")
+
+
+def waits(s):
+    s.say("Waits change the time, the count and the pending bits alone")
+    for way in "ni":
+        everything(s)
+        do(s, way, 10, 1_200_000)
+        do(s, way, 1, 9_000_000)
+        everything(s)
+        do(s, way, 10, 0)
+        s.call("", "q")
+        s.call("", "z")
+        do(s, way, 10, 4 * SECOND)
+
+
+if __name__ == "__main__":
+    s = Script()
+    s.show()
+    for part in (written, line, time_latch, edges, acknowledge, fifo, packets, sources, saved, resets, waits):
+        part(s)
+    s.write_files("registers")
