@@ -1,6 +1,6 @@
 // The calls: what each gives back is told, and the card that it leaves goes on.
 use crate::cards::changed;
-use crate::cards::fed;
+use crate::cards::count_at;
 use crate::cards::five_at;
 use crate::cards::format_of;
 use crate::cards::modulation_of;
@@ -19,7 +19,6 @@ use card::registers::input_edge;
 use card::registers::interrupt_line;
 use card::registers::read_register;
 use card::registers::write_register;
-use card::reset::fresh_card;
 use card::reset::reset;
 use card::saved::load;
 use card::saved::save;
@@ -32,7 +31,6 @@ use card::waiting::wait;
 use card::waiting::wait_in_place;
 use cases::byte_at;
 use cases::long_at;
-use cases::number_at;
 use cases::short_at;
 use cases::ticks_at;
 use clock::setting::Dividers;
@@ -51,14 +49,6 @@ ghost use Rattle.card.specs.Waiting.{wait, rowWaited};
 
 // What stands in a place before a wait: no record is 7, which would be one of no ticks.
 const UNTOUCHED: u64 = 7;
-
-// The first number, but at most so many.
-fn count_at(text: &[u8], most: usize) -> usize
-    ensures { λ r. ⌜ r ≤ most ⌝ }
-{
-    let n = (number_at(text, 1) % 100) as usize;
-    if n < most { n } else { most }
-}
 
 fn told(a: Answer) -> Card {
     put_byte(a.number);
@@ -249,8 +239,6 @@ pub fn called(call: u8, card: Card, text: &[u8]) -> Card {
             put_card(card);
             card
         }
-        b'N' => fresh_card(),
-        b'F' => fed(card, text, count_at(text, 64)),
         _ => called_card(call, card, text),
     }
 }

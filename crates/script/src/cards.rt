@@ -1,6 +1,7 @@
 // Cards of any kind: each of a card's parts may break its range.
 use card::card::Card;
 use card::registers::write_register;
+use card::reset::fresh_card;
 use cases::byte_at;
 use cases::long_at;
 use cases::number_at;
@@ -20,6 +21,14 @@ use wire::packets::Generator;
 use wire::packets::Modulation;
 use wire::time::Milliseconds;
 ghost use Prim.Native.Nat.{_≤_};
+
+// The first number, but at most so many.
+pub fn count_at(text: &[u8], most: usize) -> usize
+    ensures { λ r. ⌜ r ≤ most ⌝ }
+{
+    let n = (number_at(text, 1) % 100) as usize;
+    if n < most { n } else { most }
+}
 
 // The last five of six numbers.
 pub fn five_at(text: &[u8]) -> [u16; 5] {
@@ -175,7 +184,7 @@ fn with_queue(card: Card, text: &[u8]) -> Card {
 }
 
 // The card with so many bytes written to FIFO, one by one.
-pub fn fed(card: Card, text: &[u8], count: usize) -> Card
+fn fed(card: Card, text: &[u8], count: usize) -> Card
     requires { ⌜ count ≤ 64 ⌝ }
 {
     let mut c = card;
@@ -186,15 +195,17 @@ pub fn fed(card: Card, text: &[u8], count: usize) -> Card
     c
 }
 
-// A card with another part.
+// A fresh card, or the card with another part.
 pub fn changed(call: u8, card: Card, text: &[u8]) -> Card {
     match call {
+        b'N' => fresh_card(),
         b'T' => with_time(card, text),
         b'S' => with_sources(card, text),
         b'I' => with_interrupts(card, text),
         b'E' => with_event(card, text),
         b'L' => with_latch(card, text),
         b'M' => with_settings(card, text),
+        b'F' => fed(card, text, count_at(text, 64)),
         _ => with_queue(card, text),
     }
 }
