@@ -6,7 +6,7 @@
 Calls that are done, and the whole card after each: what is written is read back, and what no rule names stays. How a line is written, and the page's answers, are in
 script.py.
 """
-from script import DAY, FORBIDDEN, SECOND, ZEROS, Script, write_words
+from script import DAY, FORBIDDEN, SECOND, Script, write_words
 
 PAGE_TIME = (2004, 45, 472_291_234_567)
 LATCHED = write_words(366, DAY - 1)[1:]
@@ -16,7 +16,7 @@ MODES = (0, 1, 2, 3, 5, 6)
 
 
 def everything(s):
-    """A card of which nothing is as on a fresh one, but the event input, which stands on capture of rising edges."""
+    """A card of which nothing is as on a fresh one."""
     s.fresh()
     s.time(*PAGE_TIME)
     s.sources(2, 200, 2000, 3000, 1_234_567)
@@ -87,12 +87,12 @@ def time_latch(s):
 
 
 def edges(s):
-    s.say("Edges: both kinds, with each CONTROL, and bit 0 pending before or not")
+    s.say("Edges: both kinds, with each CONTROL, masked or not, and bit 0 pending before or not")
     for control in range(4):
         for falling in range(2):
-            for pending in (26, 27):
+            for mask, pending in ((0, 26), (31, 26), (0, 27)):
                 everything(s)
-                s.interrupts(0, pending, 5, 0xC3)
+                s.interrupts(mask, pending, 5, 0xC3)
                 s.call("", "w", 11, control)
                 do(s, "e", falling)
                 s.call("", "r", 15)
