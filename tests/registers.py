@@ -162,10 +162,11 @@ def sources(s):
 
 
 def saved(s):
-    """What one card saves, another card loads; each setting alone is other than on a fresh card."""
+    """What one card saves, another card loads: settings of which one is other than on a fresh card, and some of which several are."""
     fresh = (0, 1, 0, 0, 0)
     alone = ([(mode, *fresh[1:], "+0000000") for mode in MODES] + [(0, form, modulation, 0, 0, "+0000000") for form, modulation in PAIRS]
-             + [(0, 1, 0, 1, 0, "+0000000"), (0, 1, 0, 0, 1, "+0000000"), (0, 1, 0, 1, 1, "+0000000"), (6, 4, 0, 1, 1, "-9999999"), (3, 0, 1, 0, 1, "-0000001")]
+             + [(0, 1, 0, 1, 0, "+0000000"), (0, 1, 0, 0, 1, "+0000000"), (0, 1, 0, 1, 1, "+0000000"), (6, 4, 0, 1, 1, "-9999999"), (3, 0, 1, 0, 1, "-0000001"),
+                (0, 1, 1, 0, 0, "+0025000"), (6, 0, 1, 0, 0, "-9999999"), (5, 4, 0, 0, 0, "+9999999")]
              + [(*fresh, offset) for offset in ("+0000001", "-0000001", "+0025000", "+9999999", "-9999999", "+5592405", "-2796202", "+8388608", "-8388608")])
     for mode, form, modulation, clock, generator, offset in alone:
         words = f"mode {mode}, format {'ABCNX'[form]}, modulation {'MD'[modulation]}, clock {'IE'[clock]}, generator {'BH'[generator]}, offset {offset}"
