@@ -28,11 +28,13 @@ def everything(s):
     assert s.card.lawful()
 
 
-def do(s, *call, words=""):
-    """A call, and the card after it."""
-    values = s.call(words, *call)
-    s.show()
-    return values
+class Registers(Script):
+    """A script that shows the card after each call."""
+
+    def do(self, *call, words=""):
+        values = self.call(words, *call)
+        self.show()
+        return values
 
 
 def written(s):
@@ -41,18 +43,16 @@ def written(s):
         s.say(name)
         everything(s)
         for value in (0xFFFF, 0, 1, 2, 4, 8, 0x10, 0x20, 0x80, 0x100, 0x8000, 0xAAAA, 0x5555):
-            do(s, "w", register, value)
-            s.call("", "r", register)
+            s.do("w", register, value)
+            s.do("r", register)
     s.say("INTSTAT")
     everything(s)
     for pending in (0, 1, 16, 10, 21, 31):
+        s.say(f"With {pending} pending")
         for value in (0, 1, 2, 4, 8, 0x10, 0x1F, 0xFFE0, 0xFFFF, 0xAAAA, 0x5555):
             s.interrupts(21, pending, 5, 0xC3)
-            s.call(f"pending {pending}, write register 15 with {value:#06x}", "w", 15, value)
-            s.call("", "r", 15)
-    s.show()
-    do(s, "w", 15, 0)
-    do(s, "w", 15, 0xFFFF)
+            s.do("w", 15, value)
+            s.do("r", 15)
 
 
 def line(s):
@@ -61,11 +61,10 @@ def line(s):
     for mask in range(5):
         for pending in range(5):
             s.interrupts(1 << mask, 1 << pending, 3, 0xA5)
-            s.call(f"pending bit {pending}, mask bit {mask}", "l")
+            s.do("l", words=f"pending bit {pending}, mask bit {mask}")
     for level in range(8):
         s.interrupts(31, 31, level, 255 - level)
-        s.call(f"level {level}", "l")
-    s.show()
+        s.do("l", words=f"level {level}")
 
 
 def time_latch(s):
@@ -73,17 +72,17 @@ def time_latch(s):
     for time in ((1, 1, 0), PAGE_TIME, (2004, 366, DAY - 1), (9999, 100, 36_000_000_000 + 1)):
         everything(s)
         s.time(*time)
-        do(s, "r", 0)
+        s.do("r", 0)
         for register in range(1, 6):
-            s.call("", "r", register)
+            s.do("r", register)
         s.time(3, 200, 9 * SECOND)
-        do(s, "r", 1)
-        do(s, "w", 0, 0xFFFF)
+        s.do("r", 1)
+        s.do("w", 0, 0xFFFF)
         for register in range(1, 6):
-            s.call("", "r", register)
-        s.call("", "r", 0)
+            s.do("r", register)
+        s.do("r", 0)
         s.time(*time)
-        do(s, "w", 0, 0)
+        s.do("w", 0, 0)
 
 
 def edges(s):
@@ -93,18 +92,18 @@ def edges(s):
             for mask, pending in ((0, 26), (31, 26), (0, 27)):
                 everything(s)
                 s.interrupts(mask, pending, 5, 0xC3)
-                s.call("", "w", 11, control)
-                do(s, "e", falling)
-                s.call("", "r", 15)
+                s.do("w", 11, control)
+                s.do("e", falling)
+                s.do("r", 15)
             for register in range(6, 11):
-                s.call("", "r", register)
+                s.do("r", register)
     s.say("A second edge stamps anew, and the latch stays while the time goes on")
     everything(s)
-    s.call("", "e", 0)
+    s.do("e", 0)
     s.time(8, 366, 5)
     s.show()
-    do(s, "e", 0)
-    do(s, "r", 10)
+    s.do("e", 0)
+    s.do("r", 10)
 
 
 def acknowledge(s):
@@ -115,19 +114,19 @@ def acknowledge(s):
                 s.fresh()
                 s.latch(done, *LATCHED)
                 s.feed(bytes_)
-                do(s, "w", 12, value, words=f"{name}, done {done}, write register 12 with {value:#06x}")
-                s.call("", "r", 12)
+                s.do("w", 12, value, words=f"{name}, done {done}, write register 12 with {value:#06x}")
+                s.do("r", 12)
 
 
 def fifo(s):
     s.say("FIFO: the low byte joins the queue")
     s.fresh()
     for value in (0x41, 0, 1, 0x17, 0xFF, 0x100, 0x1FF, 0xFF00, 0xABCD, 0xFFFF):
-        do(s, "w", 13, value)
+        s.do("w", 13, value)
     everything(s)
     s.feed(bytes(range(3, 63)))
-    do(s, "w", 13, 0x2FE)
-    do(s, "w", 13, 0x2FD, words="one byte more than 64")
+    s.do("w", 13, 0x2FE)
+    s.do("w", 13, 0x2FD, words="one byte more than 64")
 
 
 def packets(s):
@@ -139,14 +138,14 @@ def packets(s):
         packet = b"\x01" + text.encode() + b"\x17"
         for words, set_up in (("a fresh card", s.fresh), ("another", lambda: everything(s))):
             set_up()
-            s.call("", "w", 12, 0x80)       # what stood in its queue is no packet
+            s.queue(0, 0, 0)
             s.feed(packet)
-            do(s, "w", 12, 0x80, words=f"{text}, {words}")
+            s.do("w", 12, 0x80, words=f"{text}, {words}")
     s.say("Bytes behind the first 0x17 are dropped")
     s.fresh()
     s.feed(b"\x01A5\x17\x01A6\x17" + bytes(range(1, 57)))
-    do(s, "w", 12, 0x80)
-    do(s, "w", 12, 0x80)
+    s.do("w", 12, 0x80)
+    s.do("w", 12, 0x80)
 
 
 def sources(s):
@@ -154,68 +153,69 @@ def sources(s):
     for call in (("t", 1, 1, 0, 0, 0), ("t", 2004, 366, 23, 59, 59), ("t", 9999, 365, 1, 2, 3), ("s", 0), ("s", 999), ("a", 0, 0, 0, 0), ("a", 23, 59, 59, 999), ("a", 13, 7, 9, 123),
                  ("z",), ("d", 2, 65_535), ("d", 65_535, 2), ("d", 2000, 3000), ("q",)):
         everything(s)
-        do(s, *call)
-    s.call("", "z")
-    do(s, "z")
-    do(s, "q")
-    do(s, "d", 2, 2)
+        s.do(*call)
+    s.do("z")
+    s.do("z")
+    s.do("q")
+    s.do("d", 2, 2)
 
 
 def saved(s):
     """What one card saves, another card loads: settings of which one is other than on a fresh card, and some of which several are."""
+    s.say("Saved settings: mode, format, modulation, clock, generator, offset")
     fresh = (0, 1, 0, 0, 0)
     alone = ([(mode, *fresh[1:], "+0000000") for mode in MODES] + [(0, form, modulation, 0, 0, "+0000000") for form, modulation in PAIRS]
              + [(0, 1, 0, 1, 0, "+0000000"), (0, 1, 0, 0, 1, "+0000000"), (0, 1, 0, 1, 1, "+0000000"), (6, 4, 0, 1, 1, "-9999999"), (3, 0, 1, 0, 1, "-0000001"),
                 (0, 1, 1, 0, 0, "+0025000"), (6, 0, 1, 0, 0, "-9999999"), (5, 4, 0, 0, 0, "+9999999")]
              + [(*fresh, offset) for offset in ("+0000001", "-0000001", "+0025000", "+9999999", "-9999999", "+5592405", "-2796202", "+8388608", "-8388608")])
     for mode, form, modulation, clock, generator, offset in alone:
-        words = f"mode {mode}, format {'ABCNX'[form]}, modulation {'MD'[modulation]}, clock {'IE'[clock]}, generator {'BH'[generator]}, offset {offset}"
+        words = f"save {mode} {'ABCNX'[form]} {'MD'[modulation]} {'IE'[clock]} {'BH'[generator]} {offset}"
         s.fresh()
         s.settings(mode, form, modulation, clock, generator, 0)
         s.feed(f"\x01G{offset}\x17".encode())
-        s.call("", "w", 12, 0x81)
-        bytes_ = do(s, "p", 5, words=f"save {words}")[1:6]
+        s.do("w", 12, 0x81)
+        bytes_ = s.do("p", 5, words=words)[1:6]
         everything(s)
-        do(s, "o", 5, *bytes_, words=f"load {words}")
-        s.call("and save them again, with more places", "p", 12)
+        s.do("o", 5, *bytes_, words="another card, load them")
+        s.do("p", 12, words="and save them again")
 
 
 def resets(s):
     s.say("Reset: a card of which nothing is as on a fresh one, every register of it afterwards, and a reset again")
     everything(s)
     s.show()
-    do(s, "x")
+    s.do("x")
     for register in range(1, 18):
         if register != 13:
-            s.call("", "r", register)
-    s.call("", "l")
-    do(s, "x")
+            s.do("r", register)
+    s.do("l")
+    s.do("x")
     s.say("Reset: what stays of each mode, pair and generator")
     for mode in MODES:
         everything(s)
         s.settings(mode, 1, 0, 1, 0, 2)
-        do(s, "x")
+        s.do("x")
     for form, modulation in PAIRS:
         everything(s)
         s.settings(5, form, modulation, 1, 1, 1)
-        do(s, "x")
+        s.do("x")
 
 
 def waits(s):
     s.say("Waits change the time, the count and the pending bits alone")
     for way in "ni":
         everything(s)
-        do(s, way, 10, 1_200_000)
-        do(s, way, 1, 9_000_000)
+        s.do(way, 10, 1_200_000)
+        s.do(way, 1, 9_000_000)
         everything(s)
-        do(s, way, 10, 0)
-        s.call("", "q")
-        s.call("", "z")
-        do(s, way, 10, 4 * SECOND)
+        s.do(way, 10, 0)
+        s.do("q")
+        s.do("z")
+        s.do(way, 10, 4 * SECOND)
 
 
 if __name__ == "__main__":
-    s = Script()
+    s = Registers()
     s.show()
     for part in (written, line, time_latch, edges, acknowledge, fifo, packets, sources, saved, resets, waits):
         part(s)
