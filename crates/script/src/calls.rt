@@ -5,14 +5,6 @@ use crate::cards::five_at;
 use crate::cards::format_of;
 use crate::cards::modulation_of;
 use crate::cards::offset_of;
-use crate::telling::put;
-use crate::telling::put_bool;
-use crate::telling::put_byte;
-use crate::telling::put_bytes;
-use crate::telling::put_card;
-use crate::telling::put_row;
-use crate::telling::put_short;
-use crate::telling::put_words;
 use card::card::Answer;
 use card::card::Card;
 use card::registers::input_edge;
@@ -25,16 +17,23 @@ use card::saved::save;
 use card::setting::set_periodic;
 use card::setting::set_strobe;
 use card::setting::set_time;
-use card::waiting::Waited;
 use card::waiting::WaitedCard;
 use card::waiting::wait;
-use card::waiting::wait_in_place;
 use cases::byte_at;
 use cases::long_at;
 use cases::short_at;
 use cases::ticks_at;
 use clock::setting::Dividers;
 use clock::setting::StrobeAt;
+use lent::in_place;
+use telling::put;
+use telling::put_bool;
+use telling::put_byte;
+use telling::put_bytes;
+use telling::put_card;
+use telling::put_row;
+use telling::put_short;
+use telling::put_words;
 use wire::packets::ClockSource;
 use wire::packets::Generator;
 use wire::packets::Packet;
@@ -43,9 +42,6 @@ use wire::time::Ticks;
 use wire::words::read_words;
 use wire::words::write_words;
 ghost use Prim.Native.Nat.{_≤_};
-ghost use mathlib.Core.Path.{_≡_};
-ghost use lib.ListN.{length};
-ghost use Rattle.card.specs.Waiting.{wait, rowWaited};
 
 // What stands in a place before a wait: no record is 7, which would be one of no ticks.
 const UNTOUCHED: u64 = 7;
@@ -108,24 +104,6 @@ fn told_wait(card: Card, text: &[u8]) -> Card {
     let places = count_at(text, 10);
     let w = wait(card, ticks_at(text, 2), &mut row[from..places]);
     told_waited(w, &row)
-}
-
-// The card and the answer of a wait in place, as a wait by value gives them.
-fn beside(card: Card, waited: Waited) -> WaitedCard
-    ensures { λ r. ⌜ (r .card ≡ card) × (r .waited ≡ waited) ⌝ }
-{
-    WaitedCard {
-        card: card,
-        waited: waited,
-    }
-}
-
-// The wait in place, of a card that is lent to it: it gives what the wait by value gives.
-fn in_place(mut card: Card, ticks: Ticks, row: &mut [u64]) -> WaitedCard
-    ensures { λ r. ⌜ (r ≡ wait card (ticks .ticks) (length (now (row .entry)))) × (now (row .exit) ≡ rowWaited card (ticks .ticks) (now (row .entry))) ⌝ }
-{
-    let waited = wait_in_place(&mut card, ticks, row);
-    beside(card, waited)
 }
 
 fn told_wait_in_place(card: Card, text: &[u8]) -> Card {
@@ -229,7 +207,7 @@ fn called_card(call: u8, card: Card, text: &[u8]) -> Card {
     }
 }
 
-pub fn called(call: u8, card: Card, text: &[u8]) -> Card {
+pub(crate) fn called(call: u8, card: Card, text: &[u8]) -> Card {
     match call {
         b'A' | b'G' | b'H' | b'J' | b'K' | b'f' | b'g' => {
             called_alone(call, text);

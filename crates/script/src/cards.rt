@@ -23,7 +23,7 @@ use wire::time::Milliseconds;
 ghost use Prim.Native.Nat.{_≤_};
 
 // The first number, but at most so many.
-pub fn count_at(text: &[u8], most: usize) -> usize
+pub(crate) fn count_at(text: &[u8], most: usize) -> usize
     ensures { λ r. ⌜ r ≤ most ⌝ }
 {
     let n = (number_at(text, 1) % 100) as usize;
@@ -31,7 +31,7 @@ pub fn count_at(text: &[u8], most: usize) -> usize
 }
 
 // The last five of six numbers.
-pub fn five_at(text: &[u8]) -> [u16; 5] {
+pub(crate) fn five_at(text: &[u8]) -> [u16; 5] {
     let a = short_at(text, 2);
     let b = short_at(text, 3);
     let c = short_at(text, 4);
@@ -41,7 +41,7 @@ pub fn five_at(text: &[u8]) -> [u16; 5] {
 }
 
 // The offsets at which something changes, and some between.
-pub fn offset_of(n: u8) -> i32 {
+pub(crate) fn offset_of(n: u8) -> i32 {
     match n {
         0 => 0,
         1 => 25_000,
@@ -54,7 +54,7 @@ pub fn offset_of(n: u8) -> i32 {
     }
 }
 
-pub fn format_of(n: u8) -> Format {
+pub(crate) fn format_of(n: u8) -> Format {
     match n {
         0 => Format::A,
         1 => Format::B,
@@ -64,7 +64,7 @@ pub fn format_of(n: u8) -> Format {
     }
 }
 
-pub fn modulation_of(n: u8) -> Modulation {
+pub(crate) fn modulation_of(n: u8) -> Modulation {
     match n {
         1 => Modulation::D,
         _ => Modulation::M,
@@ -196,7 +196,7 @@ fn fed(card: Card, text: &[u8], count: usize) -> Card
 }
 
 // A fresh card, or the card with another part.
-pub fn changed(call: u8, card: Card, text: &[u8]) -> Card {
+pub(crate) fn changed(call: u8, card: Card, text: &[u8]) -> Card {
     match call {
         b'N' => fresh_card(),
         b'T' => with_time(card, text),

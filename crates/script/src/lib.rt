@@ -5,7 +5,6 @@
 // script ends; what the calls do is proved of the calls.
 mod calls;
 mod cards;
-mod telling;
 
 use crate::calls::called;
 use card::card::Card;

@@ -1,25 +1,25 @@
--- `telling::put_bytes` is safe and ends: it counts the twelve places up once.
+-- `put_all_queued` is safe and ends: it counts the 64 places up once.
 -- Assumes nothing.
 use Prim.Native.Nat.{_≤_, _-_}
 use native.Mathlib.Omega.{arith}
 use borrow.Author.Needs.{needs}
-use Rattle.script.proofs.telling.put_bytes.Statement.{statement}
-use Rattle.script.proofs.telling.put_bytes.Tie as tie
+use Rattle.telling.proofs.put_all_queued.Statement.{statement}
+use Rattle.telling.proofs.put_all_queued.Tie as tie
 
 abbrev Inv-loop : tie.InvT-loop
-Inv-loop row i₀ i = i ≤ 12
+Inv-loop bytes i₀ i = i ≤ 64
 
 abbrev μ-loop : tie.MeasureT-loop
-μ-loop row i₀ i = 12 - i
+μ-loop bytes i₀ i = 64 - i
 
 loop-holds : tie.Need-loop-holds Inv-loop μ-loop
 loop-holds c = omega arith
 
-element-copy-out-put-byte : tie.Need-element-copy-out-put-byte Inv-loop μ-loop
-element-copy-out-put-byte c = omega arith
+element-copy-out-put-queued : tie.Need-element-copy-out-put-queued Inv-loop μ-loop
+element-copy-out-put-queued c = omega arith
 
-put-byte-requires : tie.Need-put-byte-requires Inv-loop μ-loop
-put-byte-requires c κs = search needs
+put-queued-requires : tie.Need-put-queued-requires Inv-loop μ-loop
+put-queued-requires c κs = search needs
 
 add-i : tie.Need-add-i Inv-loop μ-loop
 add-i c = omega arith
@@ -33,15 +33,15 @@ loop-again c = omega arith
 returns : tie.Need-returns Inv-loop μ-loop
 returns c = search needs
 
-pub put-bytes-spec : {M : Type 1} → statement M
-put-bytes-spec =
+pub put-all-queued-spec : {M : Type 1} → statement M
+put-all-queued-spec =
     tie.close
     (tie.spec
     Inv-loop
     μ-loop
     loop-holds
-    element-copy-out-put-byte
-    put-byte-requires
+    element-copy-out-put-queued
+    put-queued-requires
     add-i
     loop-less
     loop-again

@@ -1,25 +1,28 @@
--- `telling::put_all_queued` is safe and ends: it counts the 64 places up once.
+-- `put_row` is safe and ends: it counts the ten places up once.
 -- Assumes nothing.
 use Prim.Native.Nat.{_≤_, _-_}
 use native.Mathlib.Omega.{arith}
 use borrow.Author.Needs.{needs}
-use Rattle.script.proofs.telling.put_all_queued.Statement.{statement}
-use Rattle.script.proofs.telling.put_all_queued.Tie as tie
+use Rattle.telling.proofs.put_row.Statement.{statement}
+use Rattle.telling.proofs.put_row.Tie as tie
 
 abbrev Inv-loop : tie.InvT-loop
-Inv-loop bytes i₀ i = i ≤ 64
+Inv-loop row i₀ i = i ≤ 10
 
 abbrev μ-loop : tie.MeasureT-loop
-μ-loop bytes i₀ i = 64 - i
+μ-loop row i₀ i = 10 - i
 
 loop-holds : tie.Need-loop-holds Inv-loop μ-loop
 loop-holds c = omega arith
 
-element-copy-out-put-queued : tie.Need-element-copy-out-put-queued Inv-loop μ-loop
-element-copy-out-put-queued c = omega arith
+mul-put : tie.Need-mul-put Inv-loop μ-loop
+mul-put c = omega arith
 
-put-queued-requires : tie.Need-put-queued-requires Inv-loop μ-loop
-put-queued-requires c κs = search needs
+element-copy-out-put : tie.Need-element-copy-out-put Inv-loop μ-loop
+element-copy-out-put c = omega arith
+
+put-requires : tie.Need-put-requires Inv-loop μ-loop
+put-requires c κs = search needs
 
 add-i : tie.Need-add-i Inv-loop μ-loop
 add-i c = omega arith
@@ -33,15 +36,16 @@ loop-again c = omega arith
 returns : tie.Need-returns Inv-loop μ-loop
 returns c = search needs
 
-pub put-all-queued-spec : {M : Type 1} → statement M
-put-all-queued-spec =
+pub put-row-spec : {M : Type 1} → statement M
+put-row-spec =
     tie.close
     (tie.spec
     Inv-loop
     μ-loop
     loop-holds
-    element-copy-out-put-queued
-    put-queued-requires
+    mul-put
+    element-copy-out-put
+    put-requires
     add-i
     loop-less
     loop-again

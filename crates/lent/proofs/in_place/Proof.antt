@@ -1,4 +1,4 @@
--- `calls::in_place` meets its contract: a walk of its MIR, by hand. The card is lent to `wait_in_place` for a lifetime that is made for the call, and comes back as that call left it.
+-- `in_place` meets its contract: a walk of its MIR, by hand. The card is lent to `wait_in_place` for a lifetime that is made for the call, and comes back as that call left it.
 -- Assumes nothing.
 use mathlib.Core.Path.{_≡_, refl, _∙_}
 use Prim.Native.Nat.{ℕ}
@@ -58,14 +58,14 @@ use Rattle.card.proofs.waiting.wait_in_place as lent-to
 use Rattle.card.proofs.waiting.wait_in_place.Symbol as lent-to-def
 use Rattle.card.proofs.waiting.wait_in_place.Symbol.{name as #wait-in-place}
 use Rattle.card.proofs.waiting.wait_in_place.Met as lent-to-thm
-use Rattle.script.proofs.calls.beside as beside
-use Rattle.script.proofs.calls.beside.Symbol as beside-def
-use Rattle.script.proofs.calls.beside.Symbol.{name as #beside}
-use Rattle.script.proofs.calls.beside.Met as beside-thm
-use Rattle.script.proofs.calls.in_place.Key.{name as #in-place}
-use Rattle.script.proofs.calls.in_place as in-place
-use Rattle.script.proofs.calls.in_place.Statement as stated
-use Rattle.script.proofs.calls.in_place.Code as code
+use Rattle.lent.proofs.beside as beside
+use Rattle.lent.proofs.beside.Symbol as beside-def
+use Rattle.lent.proofs.beside.Symbol.{name as #beside}
+use Rattle.lent.proofs.beside.Met as beside-thm
+use Rattle.lent.proofs.in_place.Key.{name as #in-place}
+use Rattle.lent.proofs.in_place as in-place
+use Rattle.lent.proofs.in_place.Statement as stated
+use Rattle.lent.proofs.in_place.Code as code
 
 abbrev stayed : Stays (in-place.ended .signature .params) (in-place.ended .kept)
 stayed = (stay-none (λ _. T.the-row) yes, (stay-none (λ _. N.the-row) yes, (gave-slice (0 ∷ []) tt (plain (λ _. u64)), tt)))
@@ -220,4 +220,4 @@ in-place-spec 𝓤 H 𝓜 𝓖 𝓡 =
     (tables 𝓤 H 𝓜 𝓡 code.env .C) (tables 𝓤 H 𝓜 𝓡 code.env .Λ) #in-place code.function (code.unfolded 𝓤 H 𝓜 𝓡)
     (in-place-meets 𝓤 H (𝓖 .A) (givenOf 𝓤 H 𝓜 𝓖) (𝓜 .mem) (𝓡 .run) (tablesOf 𝓤 H 𝓜 (tables 𝓤 H 𝓜 𝓡 code.env))
     (cited 𝓤 H (LentTo 𝓤 H (𝓖 .A) (𝓜 .mem) (𝓡 .run)) 𝓜 𝓡 code.env #wait-in-place lent-to-def.routine code.calls-card·waiting·wait-in-place (lent-to-thm.met 𝓤 H 𝓜 𝓖 𝓡))
-    (cited 𝓤 H (Beside 𝓤 H (𝓖 .A) (𝓜 .mem) (𝓡 .run)) 𝓜 𝓡 code.env #beside beside-def.routine code.calls-script·calls·beside (beside-thm.met 𝓤 H 𝓜 𝓖 𝓡)))
+    (cited 𝓤 H (Beside 𝓤 H (𝓖 .A) (𝓜 .mem) (𝓡 .run)) 𝓜 𝓡 code.env #beside beside-def.routine code.calls-lent·beside (beside-thm.met 𝓤 H 𝓜 𝓖 𝓡)))
