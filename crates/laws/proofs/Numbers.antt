@@ -10,6 +10,7 @@ use lib.ListN.{length}
 use borrow.Author.Tests.{eqb-true}
 use Rattle.wire.specs.Digits.{pick}
 use Rattle.wire.specs.Numbers.{Line, _if_, given, quiet, absent}
+use Rattle.wire.proofs.digits.Laws.{picked, zero-or}
 use Rattle.wire.proofs.numbers.Laws.{given-if, given-only-if, given-zero, given-append}
 use Rattle.wire.proofs.packets.Read.{packet-numbered}
 use Rattle.parts.specs.Interrupts.{lineUp}
@@ -35,30 +36,6 @@ use Rattle.laws.specs.Calls.{Call, number}
 use Rattle.laws.specs.Refusals.{lines}
 use Rattle.laws.proofs.Outcomes.{by}
 
--- ---- numbers that a choice gives
-
--- 0 if the refusal is 0, else the refusal
-zero-or : (n : ℕ) (t : Bool) → eqb n 0 ≡ t → pick t 0 n ≡ n
-zero-or n true e = sym (eqb-true n 0 e)
-zero-or n false e = refl
-
--- the number of an answer that is a choice between two
-read-number : (t : Bool) (a b : Value) → pick t a b .number ≡ pick t (a .number) (b .number)
-read-number true a b = refl
-read-number false a b = refl
-
-answer-number : (t : Bool) (a b : Answer) → pick t a b .number ≡ pick t (a .number) (b .number)
-answer-number true a b = refl
-answer-number false a b = refl
-
-line-number : (t : Bool) (a b : InterruptLine) → pick t a b .number ≡ pick t (a .number) (b .number)
-line-number true a b = refl
-line-number false a b = refl
-
-wait-number : (t : Bool) (a b : WaitedCard) → pick t a b .waited .number ≡ pick t (a .waited .number) (b .waited .number)
-wait-number true a b = refl
-wait-number false a b = refl
-
 -- ---- registers
 
 module _ (c : Card) (reg v : ℕ) where
@@ -74,7 +51,7 @@ module _ (c : Card) (reg v : ℕ) where
 
   at-ack : eqb reg 12 ≡ true → acknowledged c v .number ≡ given packet
   unfolding acknowledged ackRefusal
-  at-ack e = simp e (answer-number (bit 128 v) _ _ ∙ go (bit 128 v))
+  at-ack e = simp e (picked (λ (a : Answer). a .number) (bit 128 v) _ _ ∙ go (bit 128 v))
     where
       go : (t : Bool) → pick t (given (ackLines (c .queue))) 0 ≡ given (pick t (ackLines (c .queue)) [])
       go true = refl
@@ -94,21 +71,21 @@ module _ (c : Card) (reg v : ℕ) where
   write-number : writeRegister c reg v .number ≡ given (writeLines (lawful c) reg (c .queue .fill) ++ packet)
   unfolding writeRegister writeRefusal
   write-number =
-      answer-number (eqb (given (writeLines (lawful c) reg (c .queue .fill))) 0) (written c reg v) (answer c (given (writeLines (lawful c) reg (c .queue .fill))))
+      picked (λ (a : Answer). a .number) (eqb (given (writeLines (lawful c) reg (c .queue .fill))) 0) (written c reg v) (answer c (given (writeLines (lawful c) reg (c .queue .fill))))
       ∙ ap (λ (n : ℕ). pick (eqb (given (writeLines (lawful c) reg (c .queue .fill))) 0) n (given (writeLines (lawful c) reg (c .queue .fill)))) written-number
       ∙ sym (given-append (writeLines (lawful c) reg (c .queue .fill)) packet refl)
 
 read-gives : (c : Card) (reg : ℕ) → readRegister c reg .number ≡ readRefusal (lawful c) reg
 unfolding readRegister
-read-gives c reg = read-number (eqb (readRefusal (lawful c) reg) 0) _ _ ∙ zero-or (readRefusal (lawful c) reg) (eqb (readRefusal (lawful c) reg) 0) refl
+read-gives c reg = picked (λ (r : Value). r .number) (eqb (readRefusal (lawful c) reg) 0) _ _ ∙ zero-or (readRefusal (lawful c) reg) (eqb (readRefusal (lawful c) reg) 0) refl
 
 wait-gives : (c : Card) (n room : ℕ) → Waiting.wait c n room .waited .number ≡ waitRefusal c n room
 unfolding Waiting.wait
-wait-gives c n room = wait-number (eqb (waitRefusal c n room) 0) _ _ ∙ zero-or (waitRefusal c n room) (eqb (waitRefusal c n room) 0) refl
+wait-gives c n room = picked (λ (w : WaitedCard). w .waited .number) (eqb (waitRefusal c n room) 0) _ _ ∙ zero-or (waitRefusal c n room) (eqb (waitRefusal c n room) 0) refl
 
 line-table : (c : Card) (t : Bool) → lawful c ≡ t → Registers.line c .number ≡ given (18 if not (lawful c) ∷ [])
 unfolding Registers.line lineRefusal
-line-table c true e = simp e (line-number (lineUp (c .interrupts)) _ _ ∙ same (lineUp (c .interrupts)))
+line-table c true e = simp e (picked (λ (l : InterruptLine). l .number) (lineUp (c .interrupts)) _ _ ∙ same (lineUp (c .interrupts)))
   where
     same : (t : Bool) → _≡_ {A = ℕ} (pick t 0 0) 0
     same true = refl

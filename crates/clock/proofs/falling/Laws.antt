@@ -1,9 +1,9 @@
 -- Each source falls on the ticks that leave one remainder by its period; so its next fall is a distance of remainders, and the one after
 -- comes a period later. Assumes nothing.
-use Prim.Native.Nat.{ℕ, _+_, _-_, _*_, _%_, _≤_, _<_}
+use Prim.Native.Nat.{ℕ, _+_, _-_, _*_, _/_, _%_, _≤_, _<_}
 use mathlib.Core.Path.{_≡_, refl, sym, _∙_, ap}
 use mathlib.Core.Bool.{Bool, true, false, _&&_}
-use mathlib.Core.Logic.{⊎-elim}
+use mathlib.Core.Logic.{⊎-elim, _↔_}
 use native.Mathlib.Nat.{mod-lt, mod-eq-of-lt, mod-add-mod, mod-eq-sub-mod, mod-mod-of-dvd, dvd-of-mod-eq-zero, add-assoc, mul-le-mul}
 use native.Mathlib.Omega.{arith}
 use borrow.Author.Tests.{eq-eqb, ne-eqb, eqb-true, leb-true, ltb-true}
@@ -155,3 +155,18 @@ pub periodic-every : (p : Periodic) (n1 n2 count d : ℕ) → p ≡ Periodic.Eve
     → Rhythm (periodicFalls p) 0 (record { next = d; period = n1 * n2 })
 unfolding periodicFalls
 periodic-every p n1 n2 count d e h l g = rw e (rhythm _ count (n1 * n2) 0 (λ k. refl) d h l g)
+
+-- THE STROBE FALLS ON THE FIRST TICK OF ITS MILLISECOND
+
+-- of the day
+pub first-tick : (ms : Milliseconds) (tick : ℕ) → strobeFalls (Strobe.Daily ms) tick ≡ true ↔ ((tick / 10000 ≡ ms .ms) × (tick % 10000 ≡ 0))
+unfolding strobeFalls
+first-tick ms tick = (λ e. let q = eqb-true tick (ms .ms * 10000) e in (omega arith, omega arith), λ h. eq-eqb tick (ms .ms * 10000) (omega (arith, h .0, h .1)))
+
+-- of the second
+pub first-tick-each : (ms : Milliseconds) (tick : ℕ) → strobeFalls (Strobe.EachSecond ms) tick ≡ true ↔ ((tick % 10000000 / 10000 ≡ ms .ms) × (tick % 10000 ≡ 0))
+unfolding strobeFalls
+first-tick-each ms tick = (
+  λ e. let q = eqb-true (tick % 10000000) (ms .ms * 10000) e in (omega arith, omega arith),
+  λ h. eq-eqb (tick % 10000000) (ms .ms * 10000) (omega (arith, h .0, h .1)),
+)

@@ -1,16 +1,16 @@
 -- What a wait answers: the refusals 18, 15, 14, 16 in that order, and else what it lists and the clock that it leaves. Assumes nothing.
 use Prim.Native.Nat.{ℕ, _≤_, _<_}
-use mathlib.Core.Path.{_≡_, refl, sym, _∙_, ap}
+use mathlib.Core.Path.{_≡_, refl, _∙_, ap}
 use mathlib.Core.Bool.{Bool, true, false, not}
 use mathlib.Core.List.{List, [], _∷_}
 use native.Mathlib.Nat.{le-trans}
 use native.Mathlib.Omega.{arith}
-use borrow.Author.Tests.{eq-eqb, ne-eqb, le-ltb, ltb-false, eqb-false, eqb-true}
+use borrow.Author.Tests.{eq-eqb, ne-eqb, le-ltb, ltb-false, eqb-false}
 use lib.Dec.{ltb, eqb}
 use lib.ListN.{length}
-use Rattle.wire.specs.Digits.{pick}
 use Rattle.wire.specs.Numbers.{_if_, given}
 use Rattle.wire.specs.Time.{ticksOfDay}
+use Rattle.wire.proofs.digits.Laws.{picked, zero-or}
 use Rattle.wire.proofs.numbers.Laws.{given-zero, quiet-first}
 use Rattle.clock.specs.declared.clock.Clock.{Clock}
 use Rattle.clock.specs.declared.waiting.Listed.{Listed}
@@ -103,9 +103,4 @@ module _ (c : Clock) (n : ℕ) (row : List ℕ) where
 -- its number is that of its table; a refused wait passes nothing, writes nothing and leaves the clock
 pub pass-number : (c : Clock) (n room : ℕ) → pass c n room .number ≡ passRefusal c n room
 unfolding pass
-pass-number c n room = go (clockLater (passed c n room) c) (passed c n room) (listed c n room) (passRefusal c n room) (eqb (passRefusal c n room) 0) refl
-  where
-    go : (d : Clock) (p : ℕ) (rs : List ℕ) (m : ℕ) (t : Bool) → eqb m 0 ≡ t
-        → pick {A = Passed} t (record { clock = d; number = 0; passed = record { ticks = p }; written = length rs; fell = fell rs }) (record { clock = c; number = m; passed = record { ticks = 0 }; written = 0; fell = fell [] }) .number ≡ m
-    go d p rs m true e = sym (eqb-true m 0 e)
-    go d p rs m false e = refl
+pass-number c n room = picked (λ (p : Passed). p .number) (eqb (passRefusal c n room) 0) _ _ ∙ zero-or (passRefusal c n room) (eqb (passRefusal c n room) 0) refl

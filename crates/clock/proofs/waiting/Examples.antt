@@ -20,7 +20,7 @@ use Rattle.clock.specs.Waiting.{records}
 use Rattle.clock.specs.Sources.{Ready, leastOf, marks, pastOf, allPast}
 use Rattle.clock.proofs.time.Laws.{Proper, days-in-year}
 use Rattle.clock.proofs.falling.Laws.{gap-low, gap-high, second-rhythm, strobe-each, periodic-every}
-use Rattle.clock.proofs.waiting.Window.{none-fall, none-before, past-ready, least-more}
+use Rattle.clock.proofs.waiting.Window.{none-yet, none-fall, none-before, past-ready, least-more}
 
 -- ---- the records, computed
 
@@ -65,10 +65,6 @@ runs (suc f) c a s n h l d t = by (leb (leastOf s) n) refl t (λ r k u. runs f c
     by false e u next =
         let k : n < leastOf s = leb-false _ _ e in
         none-fall c a n l (λ j p q. none-before c a s h j p (omega arith)) ∙ sym (append-nil (records c a))
-
-none-yet : (c : Clock) → records c 0 ≡ []
-unfolding records
-none-yet c = refl
 
 -- ---- the page's clock: year 2004, day 1, tick 0; strobe each second at a millisecond; dividers 2000 and 2000, count 0
 

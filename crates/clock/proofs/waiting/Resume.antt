@@ -22,7 +22,7 @@ use Rattle.clock.specs.Falling.{periodicFalls, periodicLawful, falls}
 use Rattle.clock.specs.Waiting.{recordOf, records, listed, passed, movedOn, countLater, clockLater}
 use Rattle.clock.proofs.time.Laws.{later-add}
 use Rattle.clock.proofs.lawful.Laws.{parts}
-use Rattle.clock.proofs.waiting.Window.{behind, split, same-records}
+use Rattle.clock.proofs.waiting.Window.{behind, split, same-records, none-yet}
 use Rattle.clock.proofs.waiting.Laws.{listed-passed, passes, passed-all}
 
 -- ---- what falls later
@@ -102,11 +102,6 @@ passed-cut : (c : Clock) (n room : ℕ) → room < length (records c n) → pass
 unfolding passed
 passed-cut c n room l = simp (lt-leb (length (records c n)) room l)
 
-none-yet : (c : Clock) (n : ℕ) → n ≡ 0 → records c n ≡ []
-unfolding records
-none-yet c zero e = refl
-none-yet c (suc n) e = absurd (omega arith)
-
 module _ (c : Clock) (n a b : ℕ) (y : 0 < a) (z : 0 < b) where
   -- the ticks that the first wait passes, the clock that it leaves, and the records of the rest
   abbrev p : ℕ
@@ -132,7 +127,7 @@ module _ (c : Clock) (n a b : ℕ) (y : 0 < a) (z : 0 < b) where
   full l = length-take a (records c n) ∙ omega arith
 
   no-more : length (records c n) ≤ a → rest ≡ []
-  no-more l = none-yet d (n - p) (omega (arith, passed-all c n a l))
+  no-more l = same-records d (n - p) 0 (omega (arith, passed-all c n a l)) ∙ none-yet d
 
   pub lists-on : listed c n (a + b) ≡ listed c n a ++ movedOn p (listed d (n - p) b)
   unfolding listed
@@ -181,7 +176,7 @@ year-left c n room z y =
 -- a wait of 0 passes nothing and lists nothing, and the clock stays
 pub no-ticks : (c : Clock) (room : ℕ) → (passed c 0 room ≡ 0) × (listed c 0 room ≡ [])
 unfolding listed records
-no-ticks c room = (passed-all c 0 room (omega (arith, ap length (none-yet c 0 refl))), take-none room)
+no-ticks c room = (passed-all c 0 room (omega (arith, ap length (none-yet c))), take-none room)
 
 count-stays : (q : Periodic) → periodicLawful q ≡ true → countLater 0 q ≡ q
 unfolding countLater periodicLawful

@@ -42,6 +42,11 @@ split c a (suc j) =
 pub same-records : (c : Clock) (a b : ℕ) → a ≡ b → records c a ≡ records c b
 same-records c a b e = ap (records c) e
 
+-- no ticks have no records
+pub none-yet : (c : Clock) → records c 0 ≡ []
+unfolding records
+none-yet c = refl
+
 -- nothing falls after tick a up to n
 pub none-fall : (c : Clock) (a n : ℕ) → a ≤ n → ((k : ℕ) → a < k → k ≤ n → falls c k ≡ 0) → records c n ≡ records c a
 unfolding records recordOf

@@ -13,7 +13,8 @@ use Rattle.wire.specs.Digits.{pick}
 use Rattle.wire.specs.Packets.{has}
 use Rattle.laws.specs.Each.{Each}
 use Rattle.listing.specs.Listing.{ends, pieces, rest, joinedParts, Piece, Uncut, Cut}
-use Rattle.listing.proofs.feeding.Laws.{rest-append, pieces-append, or-left, or-right, not-full, rest-ended, pieces-ended}
+use Rattle.wire.proofs.digits.Laws.{or-left, or-right}
+use Rattle.listing.proofs.feeding.Laws.{rest-append, pieces-append, not-full, rest-ended, pieces-ended}
 
 or-either : (a b : Bool) → (a || b) ≡ true → (a ≡ true) ⊎ (b ≡ true)
 or-either true b e = inl refl

@@ -2,7 +2,7 @@
 -- By induction on the input. Assumes nothing.
 use Prim.Native.Nat.{ℕ, suc, _+_, _≤_, _<_}
 use mathlib.Core.Path.{_≡_, refl, sym, ap, ap₂, _∙_}
-use mathlib.Core.Bool.{Bool, true, false, _||_}
+use mathlib.Core.Bool.{Bool, true, false}
 use mathlib.Core.List.{List, [], _∷_, _++_, append-assoc, append-nil}
 use native.Mathlib.Omega.{arith}
 use lib.Dec.{eqb}
@@ -10,6 +10,7 @@ use lib.Arith.{lt-of-le-ne}
 use lib.ListN.{length, length-append}
 use borrow.Author.Tests.{eqb-false}
 use Rattle.wire.specs.Digits.{pick}
+use Rattle.wire.proofs.digits.Laws.{or-right}
 use Rattle.listing.specs.Listing.{ends, pieces, rest, answerOf, line, lines}
 
 pick-rest : (t : Bool) (r s ys : List ℕ) → pick t (rest r ys) (rest s ys) ≡ rest (pick t r s) ys
@@ -43,14 +44,6 @@ lines-append n (p ∷ ps) qs =
     ∙ sym (append-assoc (line n (answerOf p)) (lines (suc n) ps) (lines (n + suc (length ps)) qs))
 
 -- ONE BYTE MORE
-
-pub or-left : (a b : Bool) → (a || b) ≡ false → a ≡ false
-or-left true b e = e
-or-left false b e = refl
-
-pub or-right : (a b : Bool) → (a || b) ≡ false → b ≡ false
-or-right true b e = cc
-or-right false b e = e
 
 pub not-full : (held : List ℕ) (b : ℕ) → ends held b ≡ false → length held ≤ 40 → length held < 40
 unfolding ends

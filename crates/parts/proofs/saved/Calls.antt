@@ -8,6 +8,7 @@ use lib.ListN.{length, drop}
 use borrow.Author.Tests.{lt-ltb, le-ltb, ne-eqb}
 use Rattle.wire.specs.Digits.{pick, unpacked}
 use Rattle.wire.specs.Numbers.{_if_, given}
+use Rattle.wire.proofs.digits.Laws.{picked}
 use Rattle.parts.specs.declared.settings.Settings.{Settings}
 use Rattle.parts.specs.declared.saved.SettingsRead.the-variants as SettingsRead
 use Rattle.parts.specs.Settings.{settingsLawful}
@@ -61,11 +62,7 @@ number-loaded bytes = go (eqb (length bytes) 5 && meaningful (unpacked 2 8 bytes
 -- and its settings are what the bytes say, if no line holds
 pub settings-loaded : (these : Settings) (bytes : List ℕ) → settingsLoaded these (readSaved bytes) ≡ pick (eqb (savedRefusal bytes) 0) (settingsIn (unpacked 2 8 bytes)) these
 unfolding readSaved
-settings-loaded these bytes = go (eqb (savedRefusal bytes) 0)
-  where
-    go : (t : Bool) → settingsLoaded these (pick t (SettingsRead.Is (settingsIn (unpacked 2 8 bytes))) SettingsRead.Refused) ≡ pick t (settingsIn (unpacked 2 8 bytes)) these
-    go true = refl
-    go false = refl
+settings-loaded these bytes = picked (settingsLoaded these) (eqb (savedRefusal bytes) 0) (SettingsRead.Is (settingsIn (unpacked 2 8 bytes))) SettingsRead.Refused
 
 -- a refused saving leaves the row
 pub put-stays : (s : Settings) (row : List ℕ) → (putRefusal s (length row) ≡ 0 → ⊥) → rowPut s row ≡ row

@@ -3,7 +3,7 @@
 use Prim.Native.Nat.{ℕ, zero, suc, _+_, _*_, _/_, _%_, _^_, _≤_, _<_, zero-le, suc-le-suc}
 use mathlib.Core.Path.{_≡_, refl, sym, _∙_, ap, ap₂}
 use mathlib.Core.List.{List, [], _∷_, _++_}
-use mathlib.Core.Bool.{Bool, true, false, _&&_}
+use mathlib.Core.Bool.{Bool, true, false, _&&_, _||_}
 use mathlib.Core.Logic.{_⊎_, inl, inr, ⊎-elim}
 use native.Mathlib.Nat.{pow-zero, pow-suc, mul-comm, mul-assoc, div-one, mod-one, mod-lt, mod-eq-of-lt, div-add-mod', div-div-eq-div-mul, mul-add-div-right, mul-add-mod-self-right, one-le-pow, suc-add, add-mul, add-assoc, zero-mul, suc-mul}
 use native.Mathlib.Omega.{arith}
@@ -11,9 +11,9 @@ use lib.Arith.{digits-div, digits-mod, digits-lt, mod-mul}
 use lib.Pow.{pow-add}
 use lib.ListN.{length, take, drop, getD, length-append, length-drop, take-append-drop, replicate}
 use lib.Seq.{take-at, drop-at, length-take-le, drop-drop}
-use lib.Dec.{ltb}
-use borrow.Author.Tests.{ltb-true, lt-ltb}
-use Rattle.wire.specs.Digits.{digits, num, below, packed, unpacked}
+use lib.Dec.{eqb, ltb}
+use borrow.Author.Tests.{eqb-true, ltb-true, lt-ltb}
+use Rattle.wire.specs.Digits.{pick, digits, num, below, packed, unpacked}
 
 pub and-left : (a b : Bool) → (a && b) ≡ true → a ≡ true
 and-left true b e = refl
@@ -224,3 +224,23 @@ pub packed-length : (b k m : ℕ) (ds : List ℕ) → length (packed b k m ds) �
 unfolding packed
 packed-length b k zero ds = refl
 packed-length b k (suc m) ds = ap suc (packed-length b k m (drop k ds))
+
+-- TWO TESTS AND CHOICES
+
+pub or-left : (s t : Bool) → (s || t) ≡ false → s ≡ false
+or-left false t e = refl
+or-left true t e = e
+
+pub or-right : (s t : Bool) → (s || t) ≡ false → t ≡ false
+or-right false t e = e
+or-right true t e = cc
+
+-- a choice, seen through a function
+pub picked : {A B : Type 0} (f : A → B) (t : Bool) (a b : A) → f (pick t a b) ≡ pick t (f a) (f b)
+picked f true a b = refl
+picked f false a b = refl
+
+-- 0 where a number is 0, and else that number, is that number
+pub zero-or : (n : ℕ) (t : Bool) → eqb n 0 ≡ t → pick t 0 n ≡ n
+zero-or n true e = sym (eqb-true n 0 e)
+zero-or n false e = refl

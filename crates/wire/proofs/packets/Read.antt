@@ -1,6 +1,6 @@
 -- What a row reads as, by the table of its refusals: the packet that it holds if no line is given, else the number. Assumes nothing.
 use Prim.Native.Nat.{ℕ, _≤_}
-use mathlib.Core.Path.{_≡_, refl, sym}
+use mathlib.Core.Path.{_≡_, refl, _∙_}
 use mathlib.Core.Bool.{Bool, true, false, _&&_}
 use mathlib.Core.List.{List, [], _∷_}
 use native.Mathlib.Omega.{arith}
@@ -12,29 +12,23 @@ use Rattle.wire.specs.Packets.{frameLines, bodyLines, packetLines, packe
 use Rattle.wire.specs.declared.packets.Packet.{Packet}
 use Rattle.wire.specs.declared.packets.PacketRead.{PacketRead}
 use Rattle.wire.specs.declared.packets.PacketRead.the-variants as PacketRead
-use Rattle.wire.proofs.digits.Laws.{and-both}
+use Rattle.wire.proofs.digits.Laws.{and-both, picked, zero-or}
 
 pub refusal-given : (row : List ℕ) → packetRefusal row ≡ given (packetLines row)
 unfolding packetRefusal
 refusal-given row = refl
 
-by-number : (n : ℕ) (p : Packet) (t : Bool) → eqb n 0 ≡ t → numberRead (pick t (PacketRead.Is p) (PacketRead.Refused n)) ≡ n
-by-number n p true e = sym (eqb-true n 0 e)
-by-number n p false e = refl
-
 -- the number of what a row reads as is the number that its table gives
 pub number-read : (row : List ℕ) → numberRead (readPacket row) ≡ packetRefusal row
 unfolding readPacket
-number-read row = by-number (packetRefusal row) (packetIn row) (eqb (packetRefusal row) 0) refl
+number-read row =
+    picked numberRead (eqb (packetRefusal row) 0) (PacketRead.Is (packetIn row)) (PacketRead.Refused (packetRefusal row))
+    ∙ zero-or (packetRefusal row) (eqb (packetRefusal row) 0) refl
 
 -- and its values are those of the packet that it holds, 0 beside a refusal
-values-by : (n : ℕ) (p : Packet) (t : Bool) → valuesRead (pick t (PacketRead.Is p) (PacketRead.Refused n)) ≡ pick t (valuesOf p) noValues
-values-by n p true = refl
-values-by n p false = refl
-
 pub values-read : (row : List ℕ) → valuesRead (readPacket row) ≡ pick (eqb (packetRefusal row) 0) (valuesOf (packetIn row)) noValues
 unfolding readPacket
-values-read row = values-by (packetRefusal row) (packetIn row) (eqb (packetRefusal row) 0)
+values-read row = picked valuesRead (eqb (packetRefusal row) 0) (PacketRead.Is (packetIn row)) (PacketRead.Refused (packetRefusal row))
 
 pub reads-in : (row : List ℕ) → packetRefusal row ≡ 0 → readPacket row ≡ PacketRead.Is (packetIn row)
 unfolding readPacket

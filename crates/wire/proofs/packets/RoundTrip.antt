@@ -26,10 +26,11 @@ use Rattle.wire.specs.declared.packets.ClockSource.the-variants as Clock
 use Rattle.wire.specs.declared.packets.Generator.{Generator}
 use Rattle.wire.specs.declared.packets.Generator.the-variants as Generator
 use Rattle.wire.specs.declared.packets.Packet.{Packet}
+use Rattle.wire.specs.declared.packets.PacketWritten.{PacketWritten}
 use Rattle.wire.specs.declared.packets.Packet.the-variants as Packet
 use Rattle.wire.specs.declared.packets.PacketRead.{PacketRead}
 use Rattle.wire.specs.declared.packets.PacketRead.the-variants as PacketRead
-use Rattle.wire.proofs.digits.Laws.{lt-or-le, and-left, and-right, below-both, digits-below, digits-length, written, read}
+use Rattle.wire.proofs.digits.Laws.{lt-or-le, and-left, and-right, or-left, or-right, picked, zero-or, below-both, digits-below, digits-length, written, read}
 use Rattle.wire.proofs.numbers.Laws.{given-zero, quiet-first}
 use Rattle.wire.proofs.packets.Read.{is-by, read-is}
 use Rattle.wire.proofs.packets.Laws.{place-has, place-front, framed-row, mode-body, clock-body, generator-body, format-body, offset-body, kinds-one, kinds-two, kinds-cons, kinds-decimal, signedRead, seven-small, values-length, values-below}
@@ -213,14 +214,6 @@ place-is b (x ∷ xs) h = go (eqb x b) refl h (place-is b xs)
     go : (t : Bool) → eqb x b ≡ t → (t || has b xs) ≡ true → (has b xs ≡ true → getD xs (placeOf b xs) 0 ≡ b) → getD (x ∷ xs) (pick t 0 (suc (placeOf b xs))) 0 ≡ b
     go true e h f = eqb-true x b e
     go false e h f = f h
-
-or-left : (s t : Bool) → (s || t) ≡ false → s ≡ false
-or-left false t e = refl
-or-left true t e = e
-
-or-right : (s t : Bool) → (s || t) ≡ false → t ≡ false
-or-right false t e = e
-or-right true t e = absurd (let z : _≡_ {A = ℕ} 0 1 = cc in omega arith)
 
 -- the row, cut at its first 0x17
 module _ (row : List ℕ) (p : Packet) (h : readPacket row ≡ PacketRead.Is p) where
@@ -525,11 +518,9 @@ written-read row p h =
 -- the number of writing is that of its table, and a refused writing writes nothing
 pub write-number : (p : Packet) (room : ℕ) → writePacket p room .number ≡ writingRefusal p room
 unfolding writePacket
-write-number p room = go (writingRefusal p room) (eqb (writingRefusal p room) 0) refl
-  where
-    go : (n : ℕ) (t : Bool) → eqb n 0 ≡ t → pick t (packetWritten 0 (length (bytesOf p))) (packetWritten n 0) .number ≡ n
-    go n true e = sym (eqb-true n 0 e)
-    go n false e = refl
+write-number p room =
+    picked (λ (w : PacketWritten). w .number) (eqb (writingRefusal p room) 0) (packetWritten 0 (length (bytesOf p))) (packetWritten (writingRefusal p room) 0)
+    ∙ zero-or (writingRefusal p room) (eqb (writingRefusal p room) 0) refl
 
 pub write-nothing : (p : Packet) (row : List ℕ) → (writePacket p (length row) .number ≡ 0 → ⊥) → (writePacket p (length row) .bytes ≡ 0) × (rowWritten p row ≡ row)
 unfolding writePacket rowWritten

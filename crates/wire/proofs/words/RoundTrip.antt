@@ -9,7 +9,7 @@ use native.Mathlib.Omega.{arith}
 use lib.Dec.{leb, eqb, lit<, lit≤}
 use lib.ListN.{length, take, drop, replicate, length-drop}
 use lib.Seq.{length-take-le}
-use borrow.Author.Tests.{lt-ltb, le-leb, leb-true, eqb-true, ne-eqb, not-false}
+use borrow.Author.Tests.{lt-ltb, le-leb, leb-true, ne-eqb, not-false}
 use Rattle.wire.specs.declared.words.TimeRead.{TimeRead}
 use Rattle.wire.specs.declared.words.WordsWritten.{WordsWritten}
 use Rattle.wire.specs.Digits.{pick, digits, num, below, packed, unpacked}
@@ -17,7 +17,7 @@ use Rattle.wire.specs.Numbers.{_if_, given}
 use Rattle.wire.proofs.numbers.Laws.{given-zero, quiet-first}
 use Rattle.wire.specs.Time.{ticksOfDay, hourOf, minuteOf, secondOf, fractionOf, tickAt}
 use Rattle.wire.specs.Words.{timeDigits, wordsOf, writable, decimal, field, dayIn, hourIn, minuteIn, secondIn, fractionIn, tickIn, inRange, digitsRefusal, readDigits, timeRead, readWords, zeroWords, wordsOrZero, writeWords}
-use Rattle.wire.proofs.digits.Laws.{and-left, and-right, below-both, below-more, zeros, cut, digits-below, written, read-part, part-below, unpack-packed, pack-unpacked, unpacked-length}
+use Rattle.wire.proofs.digits.Laws.{and-left, and-right, picked, zero-or, below-both, below-more, zeros, cut, digits-below, written, read-part, part-below, unpack-packed, pack-unpacked, unpacked-length}
 use Rattle.wire.proofs.time.Laws.{parts, hour-at, minute-at, second-at, fraction-at}
 use Rattle.wire.proofs.words.Laws.{writable-day, writable-tick, read-done}
 
@@ -147,20 +147,23 @@ module _ (ds : List ℕ) (l : length ds ≡ 20) (x : decimal ds ≡ true) (r : i
       let q = in-range _ _ _ _ r in
       simp (le-leb 1 (dayIn ds) (omega arith), le-leb (dayIn ds) 366 (omega arith), lt-ltb (tickIn ds) ticksOfDay (omega (arith, small)))
 
--- what number 0 tells of the digits
-number-done : (n d t : ℕ) (b : Bool) → eqb n 0 ≡ b → pick b (timeRead 0 d t) (timeRead n 0 0) .number ≡ 0 → n ≡ 0
-number-done n d t true e h = eqb-true n 0 e
-number-done n d t false e h = h
+-- the number of a reading is that of its table
+pub read-number : (ws : List ℕ) → readWords ws .number ≡ digitsRefusal (unpacked 16 4 ws)
+unfolding readWords readDigits
+read-number ws =
+    let ds : List ℕ = unpacked 16 4 ws in
+    picked (λ (r : TimeRead). r .number) (eqb (digitsRefusal ds) 0) (timeRead 0 (dayIn ds) (tickIn ds)) (timeRead (digitsRefusal ds) 0 0)
+    ∙ zero-or (digitsRefusal ds) (eqb (digitsRefusal ds) 0) refl
 
 module _ (ws : List ℕ) (l : length ws ≡ 5) (b : below 65536 ws ≡ true) (n : readWords ws .number ≡ 0) where
   abbrev ds : List ℕ
   ds = unpacked 16 4 ws
 
   tested : (decimal ds ≡ true) × (inRange (dayIn ds) (hourIn ds) (minuteIn ds) (secondIn ds) ≡ true)
-  unfolding readWords readDigits digitsRefusal
+  unfolding digitsRefusal
   tested =
       let in-range : Bool = inRange (dayIn ds) (hourIn ds) (minuteIn ds) (secondIn ds) in
-      let q = given-zero (17 if not (decimal ds) ∷ 11 if not in-range ∷ []) refl .0 (number-done (digitsRefusal ds) (dayIn ds) (tickIn ds) (eqb (digitsRefusal ds) 0) refl n) in
+      let q = given-zero (17 if not (decimal ds) ∷ 11 if not in-range ∷ []) refl .0 (sym (read-number ws) ∙ n) in
       let a = quiet-first (not (decimal ds)) _ q in
       (not-false (decimal ds) (a .0), not-false in-range (quiet-first (not in-range) true (a .1) .0))
 
@@ -206,15 +209,7 @@ words-differ d t d′ t′ w w′ e =
     let q : timeRead 0 d t ≡ timeRead 0 d′ t′ = sym (read-back d t w) ∙ ap readWords e ∙ read-back d′ t′ w′ in
     (ap (λ (r : TimeRead). r .day) q, ap (λ (r : TimeRead). r .tick .ticks) q)
 
--- their numbers are those of their tables, and beside a refusal stand zeros
-pub read-number : (ws : List ℕ) → readWords ws .number ≡ digitsRefusal (unpacked 16 4 ws)
-unfolding readWords readDigits
-read-number ws = go (digitsRefusal (unpacked 16 4 ws)) _ _ (eqb (digitsRefusal (unpacked 16 4 ws)) 0) refl
-  where
-    go : (n d t : ℕ) (b : Bool) → eqb n 0 ≡ b → pick b (timeRead 0 d t) (timeRead n 0 0) .number ≡ n
-    go n d t true e = sym (eqb-true n 0 e)
-    go n d t false e = refl
-
+-- beside a refusal stand zeros
 pub read-zeros : (ws : List ℕ) → (readWords ws .number ≡ 0 → ⊥) → readWords ws ≡ timeRead (digitsRefusal (unpacked 16 4 ws)) 0 0
 unfolding readWords readDigits
 read-zeros ws h = simp (ne-eqb (digitsRefusal (unpacked 16 4 ws)) 0 (λ e. h (read-number ws ∙ e)))
