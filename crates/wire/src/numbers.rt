@@ -38,3 +38,5 @@ pub const BAD_DIGIT: u8 = 17;
 pub const UNLAWFUL: u8 = 18;
 
 pub const NOT_SAVED: u8 = 19;
+
+pub const OUTSIDE_SWITCH: u8 = 20;

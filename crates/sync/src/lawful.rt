@@ -1,0 +1,37 @@
+// 18: whether a board is one that calls could have left.
+use crate::board::Board;
+use crate::board::switches_fit;
+use crate::stepping::LATE;
+ghost use mathlib.Core.Path.{_≡_};
+ghost use Rattle.sync.specs.Lawful.{unseenLawful, seenLawful, lawful};
+
+// Before the first pulse: nothing has passed, the bit is set, and nothing waits.
+fn unseen_fits(b: Board) -> bool
+    ensures { λ r. ⌜ r ≡ unseenLawful b ⌝ }
+{
+    (b.elapsed == 0) & (b.bit & !(b.err | (b.slo | b.fast)))
+}
+
+// After it: what is taken later waits too; and the bit is set once a pulse is missing.
+fn seen_fits(b: Board) -> bool
+    ensures { λ r. ⌜ r ≡ seenLawful b ⌝ }
+{
+    let waits = if b.elapsed < LATE {
+        !b.err | b.slo
+    } else {
+        (b.elapsed == LATE) & b.bit
+    };
+    (!b.slo | b.fast) & waits
+}
+
+// Whether any call takes this board. Asked first in each of them.
+pub fn is_lawful(board: Board) -> bool
+    ensures { λ r. ⌜ r ≡ lawful board ⌝ }
+{
+    let state = if board.seen {
+        seen_fits(board)
+    } else {
+        unseen_fits(board)
+    };
+    switches_fit(board.rc1 as u32, board.base as u32) & state
+}

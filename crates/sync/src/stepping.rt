@@ -1,0 +1,107 @@
+// Steps of 1 µs.
+use crate::board::Answer;
+use crate::board::Board;
+use crate::counting::count_at;
+use crate::lawful::is_lawful;
+use wire::numbers;
+ghost use mathlib.Core.Path.{_≡_};
+ghost use mathlib.Core.Bool.{true, false};
+ghost use Prim.Native.Nat.{_+_, _≤_};
+ghost use Rattle.sync.specs.Stepping.{held, stepped, quietSteps, step, run};
+ghost use Rattle.sync.specs.Lawful.{lawful};
+
+// A pulse is in time from the one to the other, in microseconds after the one before.
+const EARLIEST: u32 = 992_000;
+
+const LATEST: u32 = 1_008_000;
+
+// The microsecond on which a missing pulse is an error. Nothing later is told apart from it.
+pub(crate) const LATE: u32 = 1_008_001;
+
+// The microseconds since the last pulse, so many later.
+fn held_after(elapsed: u32, n: u64) -> u32
+    requires { ⌜ elapsed ≤ 1008001 ⌝ }
+    ensures { λ r. ⌜ r ≡ held (elapsed + n) ⌝ }
+{
+    let left = LATE - elapsed;
+    if n < left as u64 {
+        return elapsed + (n as u32);
+    }
+    LATE
+}
+
+// The board after so many quiet microseconds, however many.
+fn quiet(board: Board, n: u64) -> Board
+    requires { ⌜ lawful board ≡ true ⌝ }
+    ensures { λ r. ⌜ r ≡ quietSteps n board ⌝ }
+{
+    if !board.seen {
+        return board;
+    }
+    let from = board.elapsed;
+    let to = held_after(from, n);
+    let counted = count_at(board.rc1, from) < count_at(board.rc1, to);
+    let missed = (from < LATE) & (to == LATE);
+    let mut b = board;
+    b.elapsed = to;
+    b.bit = board.bit | missed;
+    b.err = board.err | missed;
+    b.fast = board.fast | counted;
+    b
+}
+
+// The board after a microsecond with a pulse.
+fn pulsed(board: Board) -> Board
+    requires { ⌜ lawful board ≡ true ⌝ }
+    ensures { λ r. ⌜ r ≡ stepped board true ⌝ }
+{
+    let at = board.elapsed + 1;
+    let in_time = !board.seen | ((EARLIEST <= at) & (at <= LATEST));
+    let wrong = board.seen & ((at < EARLIEST) | (at == LATE));
+    let mut b = board;
+    b.seen = true;
+    b.elapsed = 0;
+    b.bit = !in_time & (board.bit | wrong);
+    b.err = board.err | wrong;
+    b.slo = true;
+    b.fast = true;
+    b
+}
+
+// One step, with or without a pulse.
+pub fn step(board: Board, pulse: bool) -> Answer
+    ensures { λ r. ⌜ r ≡ step board pulse ⌝ }
+{
+    if !is_lawful(board) {
+        return Answer {
+            board: board,
+            number: numbers::UNLAWFUL,
+        };
+    }
+    if pulse {
+        return Answer {
+            board: pulsed(board),
+            number: numbers::DONE,
+        };
+    }
+    Answer {
+        board: quiet(board, 1),
+        number: numbers::DONE,
+    }
+}
+
+// A run of quiet steps, in the time of one.
+pub fn run(board: Board, n: u64) -> Answer
+    ensures { λ r. ⌜ r ≡ run board n ⌝ }
+{
+    if !is_lawful(board) {
+        return Answer {
+            board: board,
+            number: numbers::UNLAWFUL,
+        };
+    }
+    Answer {
+        board: quiet(board, n),
+        number: numbers::DONE,
+    }
+}
