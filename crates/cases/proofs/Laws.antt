@@ -10,10 +10,8 @@ use lib.ListN.{length, drop, getD, drop-of-length-le}
 use lib.Seq.{drop-cons}
 use borrow.Author.Tests.{ne-eqb}
 use Rattle.wire.specs.Digits.{pick}
+use Rattle.wire.proofs.digits.Laws.{clash}
 use Rattle.cases.specs.Numbers.{pieceAt, withDigit, withDigits, numberAt}
-
-true-false : true ≡ false → ⊥
-true-false e = let z : _≡_ {A = ℕ} 0 1 = cc in omega arith
 
 -- what is looked for in the rest of a text is the number, with so many spaces to come and so much of it read
 abbrev pub Found : List ℕ → ℕ → ℕ → ℕ → ℕ → Type 0
@@ -23,17 +21,17 @@ Found text place left n i = withDigits n (pieceAt left (drop i text)) ≡ number
 ends-here : (t : Bool) (n b : ℕ) (bs : List ℕ) → t ≡ true → n ≡ withDigits n (pick t [] (b ∷ pieceAt 0 bs))
 unfolding withDigits
 ends-here true n b bs e = refl
-ends-here false n b bs e = absurd (true-false (sym e))
+ends-here false n b bs e = clash (sym e)
 
 ends : (left n b : ℕ) (bs : List ℕ) → (eqb left 0 && eqb b 32) ≡ true → n ≡ withDigits n (pieceAt left (b ∷ bs))
 unfolding pieceAt
 ends zero n b bs e = ends-here (eqb b 32) n b bs e
-ends (suc left) n b bs e = absurd (true-false (sym e ∙ ap (λ (t : Bool). t && eqb b 32) (ne-eqb (suc left) 0 (λ q. omega arith))))
+ends (suc left) n b bs e = clash (sym e ∙ ap (λ (t : Bool). t && eqb b 32) (ne-eqb (suc left) 0 (λ q. omega arith)))
 
 -- else a byte of the number joins it, and any other leaves it
 goes-in : (t : Bool) (n b : ℕ) (bs : List ℕ) → t ≡ false → withDigits n (pick t [] (b ∷ pieceAt 0 bs)) ≡ withDigits (withDigit n b) (pieceAt (pick t (0 - 1) 0) bs)
 unfolding withDigits
-goes-in true n b bs e = absurd (true-false e)
+goes-in true n b bs e = clash e
 goes-in false n b bs e = refl
 
 goes-by : (t : Bool) (left n : ℕ) (bs : List ℕ) → withDigits n (pick t (pieceAt left bs) (pieceAt (suc left) bs)) ≡ withDigits n (pieceAt (pick t (suc left - 1) (suc left)) bs)

@@ -11,7 +11,7 @@ use borrow.Author.Tests.{eqb-true}
 use Rattle.wire.specs.Digits.{pick}
 use Rattle.wire.specs.Numbers.{Line, _if_, given, quiet, absent}
 use Rattle.wire.proofs.digits.Laws.{picked, zero-or}
-use Rattle.wire.proofs.numbers.Laws.{given-if, given-only-if, given-zero, given-append}
+use Rattle.wire.proofs.numbers.Laws.{given-exactly, given-zero, given-append}
 use Rattle.wire.proofs.packets.Read.{packet-numbered}
 use Rattle.parts.specs.Interrupts.{lineUp}
 use Rattle.parts.specs.Pending.{bit}
@@ -131,6 +131,4 @@ done-exactly-if k c =
 -- and any other number exactly if its line holds and no line above it does, where no other line of the table has that number
 pub given-exactly-if : (k : Call) (c : Card) (n : ℕ) (above below : List Line) (t : Bool) → lines k c ≡ above ++ (n if t ∷ below)
     → eqb n 0 ≡ false → absent n above ≡ true → absent n below ≡ true → number k c ≡ n ↔ ((t ≡ true) × (quiet above ≡ true))
-given-exactly-if k c n above below t l z a b =
-    let g : number k c ≡ given (above ++ (n if t ∷ below)) = number-given k c ∙ ap given l in
-    (λ e. given-only-if n z below b t above a (sym g ∙ e), λ h. g ∙ ap (λ (s : Bool). given (above ++ (n if s ∷ below))) (h .0) ∙ given-if n above below (h .1))
+given-exactly-if k c n above below t l z a b = rw (number-given k c ∙ ap given l) (given-exactly n above below t z a b)

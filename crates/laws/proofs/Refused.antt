@@ -9,6 +9,7 @@ use native.Mathlib.Omega.{arith}
 use lib.Dec.{eqb}
 use lib.ListN.{length}
 use borrow.Author.Tests.{eqb-false, eqb-true}
+use Rattle.wire.proofs.digits.Laws.{clash}
 use Rattle.wire.proofs.packets.Read.{packet-number}
 use Rattle.card.specs.declared.card.Card.{Card}
 use Rattle.card.specs.Lawful.{lawful}
@@ -43,14 +44,11 @@ excepted-number k c (Excepted.packet v l b z) =
 
 -- ---- 18
 
-known : true ≡ false → ⊥
-known e = let z : _≡_ {A = ℕ} 0 1 = cc in omega arith
-
 eighteen-by : {d : Card} {n : ℕ} (k : Call) (c : Card) → Outcome k c d n → n ≡ 18 ↔ lawful c ≡ false
 eighteen-by k c (Outcome.unlawful l) = (λ e. l, λ e. refl)
-eighteen-by k c (Outcome.refused {n} l e f) = (λ q. absurd (eqb-false n 18 f q), λ u. absurd (known (sym l ∙ u)))
-eighteen-by k c (Outcome.accepted l o) = (λ q. absurd (omega arith), λ u. absurd (known (sym l ∙ u)))
-eighteen-by k c (Outcome.excepted {d} {n} l x e f) = (λ q. absurd (eqb-false n 18 f q), λ u. absurd (known (sym l ∙ u)))
+eighteen-by k c (Outcome.refused {n} l e f) = (λ q. absurd (eqb-false n 18 f q), λ u. clash (sym l ∙ u))
+eighteen-by k c (Outcome.accepted l o) = (λ q. absurd (omega arith), λ u. clash (sym l ∙ u))
+eighteen-by k c (Outcome.excepted {d} {n} l x e f) = (λ q. absurd (eqb-false n 18 f q), λ u. clash (sym l ∙ u))
 
 pub eighteen : (k : Call) (c : Card) → number k c ≡ 18 ↔ lawful c ≡ false
 eighteen k c = eighteen-by k c (outcome k c)
@@ -67,8 +65,8 @@ accepted-lawful k c e = go (lawful c) refl
 unlawful-by : {d : Card} {n : ℕ} (k : Call) (c : Card) → Outcome k c d n → lawful c ≡ false → d ≡ c
 unlawful-by k c (Outcome.unlawful l) u = refl
 unlawful-by k c (Outcome.refused l e f) u = refl
-unlawful-by k c (Outcome.accepted l o) u = absurd (known (sym l ∙ u))
-unlawful-by k c (Outcome.excepted l x e f) u = absurd (known (sym l ∙ u))
+unlawful-by k c (Outcome.accepted l o) u = clash (sym l ∙ u)
+unlawful-by k c (Outcome.excepted l x e f) u = clash (sym l ∙ u)
 
 pub unlawful-stays : (k : Call) (c : Card) → lawful c ≡ false → after k c ≡ c
 unlawful-stays k c = unlawful-by k c (outcome k c)

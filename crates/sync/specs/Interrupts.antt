@@ -22,21 +22,32 @@ sloTaken b = record { rc1 = b .rc1; base = b .base; seen = b .seen; elapsed = b 
 abbrev pub fastTaken : Board → Board
 fastTaken b = record { rc1 = b .rc1; base = b .base; seen = b .seen; elapsed = b .elapsed; bit = b .bit; err = b .err; slo = b .slo; fast = false }
 
--- done, with the board afterwards and what was taken
-abbrev pub gives : Board → Interrupt → Taken
-gives b i = record { board = b; interrupt = i; number = 0 }
+-- the next one's vector; with none waiting the answer says so
+unfoldable pub next : Board → Interrupt
+next b =
+    pick (b .err) (Interrupt.Vector (b .base + 2))
+    (pick (b .slo) (Interrupt.Vector (b .base + 1))
+    (pick (b .fast) (Interrupt.Vector (b .base))
+    Interrupt.NoneWaits))
 
--- the next one; with none waiting the answer says so
-unfoldable pub taken : Board → Taken
-taken b =
-    pick (b .err) (gives (errTaken b) (Interrupt.Vector (b .base + 2)))
-    (pick (b .slo) (gives (sloTaken b) (Interrupt.Vector (b .base + 1)))
-    (pick (b .fast) (gives (fastTaken b) (Interrupt.Vector (b .base)))
-    (gives b Interrupt.NoneWaits)))
+-- and the board when it is taken
+unfoldable pub nextTaken : Board → Board
+nextTaken b = pick (b .err) (errTaken b) (pick (b .slo) (sloTaken b) (pick (b .fast) (fastTaken b) b))
 
 -- beside a refusal none is given
 abbrev pub takeLines : Board → List Line
 takeLines b = 18 if not (lawful b) ∷ []
 
 abbrev pub takeInterrupt : Board → Taken
-takeInterrupt b = pick (eqb (given (takeLines b)) 0) (taken b) (record { board = b; interrupt = Interrupt.NoneWaits; number = given (takeLines b) })
+takeInterrupt b =
+    record {
+      board = pick (eqb (given (takeLines b)) 0) (nextTaken b) b;
+      interrupt = pick (eqb (given (takeLines b)) 0) (next b) Interrupt.NoneWaits;
+      number = given (takeLines b);
+    }
+
+-- WITHIN THE CRATE
+
+-- what a lawful board answers
+abbrev pub taken : Board → Interrupt → Taken
+taken b i = record { board = b; interrupt = i; number = 0 }

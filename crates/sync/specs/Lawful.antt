@@ -1,4 +1,4 @@
--- 18: a board that no calls of ours could have left. `proofs/lawful/Reached.antt` has calls that leave each of the others.
+-- 18: a board that no calls of ours could have left. Which calls leave each of the others, `way` of Runs.antt says; law `lawful-exactly-if` of proofs/Reached.antt.
 use Prim.Native.Nat.{ℕ}
 use mathlib.Core.Bool.{Bool, _&&_, _||_, not}
 use lib.Dec.{leb, ltb, eqb}

@@ -5,3 +5,5 @@ pub mod Switches
 pub mod Stepping
 pub mod Register
 pub mod Interrupts
+pub mod Calls
+pub mod Runs

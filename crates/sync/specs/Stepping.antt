@@ -8,7 +8,7 @@ use Rattle.wire.specs.Numbers.{Line, _if_}
 use Rattle.sync.specs.declared.board.Board.{Board}
 use Rattle.sync.specs.declared.board.Answer.{Answer}
 use Rattle.sync.specs.Boards.{granted}
-use Rattle.sync.specs.Counting.{frequency, count, countFalls}
+use Rattle.sync.specs.Counting.{frequency, countFalls}
 use Rattle.sync.specs.Lawful.{lawful}
 
 -- THE MICROSECOND THAT A STEP ENDS ON, COUNTED FROM THE LAST PULSE
@@ -63,30 +63,3 @@ step b pulse = granted (stepLines b) b (stepped b pulse)
 
 abbrev pub run : Board → ℕ → Answer
 run b n = granted (stepLines b) b (quietSteps n b)
-
--- A RUN AT ONCE: what n quiet steps leave of a lawful board, law `quiet-later` of proofs/stepping/Laws.antt
-
--- no pulse came by 1,008,000
-abbrev pub missed : Board → ℕ → Bool
-missed b n = ltb (b .elapsed) 1008001 && leb 1008001 (b .elapsed + n)
-
--- the count rose
-abbrev pub counted : Board → ℕ → Bool
-counted b n = ltb (count (frequency (b .rc1)) (b .elapsed)) (count (frequency (b .rc1)) (b .elapsed + n))
-
-abbrev pub passed : ℕ → Board → Board
-passed n b =
-    record {
-      rc1 = b .rc1;
-      base = b .base;
-      seen = b .seen;
-      elapsed = held (b .elapsed + n);
-      bit = b .bit || missed b n;
-      err = b .err || missed b n;
-      slo = b .slo;
-      fast = b .fast || counted b n;
-    }
-
--- before the first pulse nothing passes
-unfoldable pub later : ℕ → Board → Board
-later n b = pick (b .seen) (passed n b) b

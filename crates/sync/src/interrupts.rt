@@ -5,7 +5,7 @@ use wire::numbers;
 ghost use mathlib.Core.Path.{_≡_};
 ghost use mathlib.Core.Bool.{true};
 ghost use Rattle.sync.specs.Lawful.{lawful};
-ghost use Rattle.sync.specs.Interrupts.{taken, takeInterrupt};
+ghost use Rattle.sync.specs.Interrupts.{next, nextTaken, taken, takeInterrupt};
 
 // The vector of the one that was taken. No vector says that none waits: 0 is one too.
 pub enum Interrupt {
@@ -22,7 +22,7 @@ pub struct Taken {
 
 fn take(board: Board) -> Taken
     requires { ⌜ lawful board ≡ true ⌝ }
-    ensures { λ r. ⌜ r ≡ taken board ⌝ }
+    ensures { λ r. ⌜ r ≡ taken (nextTaken board) (next board) ⌝ }
 {
     let mut b = board;
     if board.err {

@@ -1,7 +1,7 @@
 -- The sources that a list has: a source is listed exactly if its first fall is among the ticks passed. Assumes nothing.
 use Prim.Native.Nat.{ℕ, zero, suc, _+_, _-_, _*_, _/_, _%_, _≤_, _<_}
 use mathlib.Core.Path.{_≡_, refl, sym, _∙_, ap}
-use mathlib.Core.Bool.{Bool, true, false, _||_}
+use mathlib.Core.Bool.{Bool, true, false, _||_, or-false}
 use mathlib.Core.List.{List, [], _∷_, _++_}
 use mathlib.Core.Logic.{_⊎_, inl, inr}
 use native.Mathlib.Omega.{arith}
@@ -10,7 +10,7 @@ use lib.Dec.{leb, eqb}
 use lib.ListN.{length}
 use Rattle.wire.specs.Digits.{pick}
 use Rattle.wire.specs.Time.{ticksOfDay}
-use Rattle.wire.proofs.digits.Laws.{lt-or-le}
+use Rattle.wire.proofs.digits.Laws.{lt-or-le, or-assoc}
 use Rattle.clock.specs.declared.clock.Clock.{Clock}
 use Rattle.clock.specs.declared.falling.Sources.{Sources}
 use Rattle.clock.specs.declared.waiting.Listed.{Listed}
@@ -21,14 +21,6 @@ use Rattle.clock.specs.Sources.{NextFall, Ready, secondOn, strobeOn, wit
 use Rattle.clock.proofs.waiting.Window.{Filled}
 
 -- ---- which sources a list has
-
-or-false : (a : Bool) → a || false ≡ a
-or-false true = refl
-or-false false = refl
-
-or-assoc : (a b c : Bool) → (a || b) || c ≡ a || (b || c)
-or-assoc true b c = refl
-or-assoc false b c = refl
 
 listed-append : (w : ℕ) (xs ys : List ℕ) → sourceListed w (xs ++ ys) ≡ sourceListed w xs || sourceListed w ys
 unfolding sourceListed

@@ -4,18 +4,15 @@ use Prim.Native.Nat.{ℕ, zero, suc, _+_, _*_, _-_, _/_, _≤_, _<_}
 use mathlib.Core.Path.{_≡_, refl, sym, ap, ap₂, _∙_}
 use mathlib.Core.Bool.{Bool, true, false, _||_, _&&_, not}
 use mathlib.Core.Logic.{⊎-elim}
-use native.Mathlib.Nat.{mul-le-mul, mul-one, mul-comm}
+use native.Mathlib.Nat.{mul-le-mul, zero-mul}
 use native.Mathlib.Omega.{arith}
 use lib.Dec.{leb, ltb, eqb}
 use borrow.Author.Tests.{le-leb, lt-leb, leb-true, leb-false, lt-ltb, le-ltb, eq-eqb, ne-eqb}
 use Rattle.wire.specs.Digits.{pick}
-use Rattle.wire.proofs.digits.Laws.{lt-or-le}
+use Rattle.wire.proofs.digits.Laws.{lt-or-le, clash}
 use Rattle.sync.specs.Counting.{frequency, least, countAt, come, count, fallsAmong, countFalls}
 
 -- THE LEAST
-
-clash : {A : Type 0} → true ≡ false → A
-clash e = let z : _≡_ {A = ℕ} 0 1 = cc in absurd (omega arith)
 
 passes-step : (test : ℕ → Bool) (n : ℕ) (t : Bool) → test 0 ≡ t → test (suc n) ≡ true → test (pick t 0 (suc n)) ≡ true
 passes-step test n true e h = e
@@ -90,6 +87,10 @@ module _ (f : ℕ) (above : 0 < f) where
   pub count-held : (m : ℕ) → f ≤ m * f / 1000000 → count f m ≡ f - 1
   unfolding count
   count-held m h = come-all (f - 1) m (omega arith)
+
+  -- none has come with the pulse
+  pub count-none : count f 0 ≡ 0
+  count-none = count-below 0 (omega (arith, zero-mul f)) ∙ omega (arith, zero-mul f)
 
   pub count-least : (m : ℕ) → count f m < f
   count-least m =

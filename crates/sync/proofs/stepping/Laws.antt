@@ -1,29 +1,48 @@
 -- What n quiet steps leave of a lawful board, at once: by induction on the steps, each of which goes on from where the ones before it came to. Assumes nothing.
 use Prim.Native.Nat.{ℕ, zero, suc, _+_, _-_, _≤_, _<_}
 use mathlib.Core.Path.{_≡_, refl, sym, ap, ap₂, _∙_}
-use mathlib.Core.Bool.{Bool, true, false, _||_, _&&_, not}
+use mathlib.Core.Bool.{Bool, true, false, _||_, _&&_, not, or-false}
 use mathlib.Core.Logic.{⊎-elim}
 use native.Mathlib.Omega.{arith}
 use lib.Dec.{leb, ltb, eqb}
 use borrow.Author.Tests.{le-leb, lt-leb, leb-true, lt-ltb, le-ltb, ltb-true, eq-eqb, ne-eqb, eqb-true}
 use Rattle.wire.specs.Digits.{pick}
-use Rattle.wire.proofs.digits.Laws.{lt-or-le, and-left, and-right, and-both}
+use Rattle.wire.proofs.digits.Laws.{lt-or-le, or-assoc}
 use Rattle.sync.specs.declared.board.Board.{Board}
 use Rattle.sync.specs.Counting.{frequency, count, countFalls}
 use Rattle.sync.specs.Lawful.{unseenLawful, seenLawful, lawful}
-use Rattle.sync.specs.Stepping.{held, reached, inTime, errs, counts, stepped, quietSteps, missed, counted, passed, later}
+use Rattle.sync.specs.Stepping.{held, reached, inTime, errs, counts, stepped, quietSteps}
 use Rattle.sync.proofs.lawful.Laws.{elapsed-within}
 use Rattle.sync.proofs.counting.Laws.{count-more, count-late, count-rises, frequency-above}
 
--- BOTH OR NEITHER
+-- A RUN AT ONCE
 
-or-false : (a : Bool) → (a || false) ≡ a
-or-false true = refl
-or-false false = refl
+-- a pulse is missing, from now on
+abbrev pub missed : Board → ℕ → Bool
+missed b n = ltb (b .elapsed) 1008001 && leb 1008001 (b .elapsed + n)
 
-or-assoc : (a b c : Bool) → ((a || b) || c) ≡ (a || (b || c))
-or-assoc true b c = refl
-or-assoc false b c = refl
+-- the count rises
+abbrev pub counted : Board → ℕ → Bool
+counted b n = ltb (count (frequency (b .rc1)) (b .elapsed)) (count (frequency (b .rc1)) (b .elapsed + n))
+
+abbrev pub passed : ℕ → Board → Board
+passed n b =
+    record {
+      rc1 = b .rc1;
+      base = b .base;
+      seen = b .seen;
+      elapsed = held (b .elapsed + n);
+      bit = b .bit || missed b n;
+      err = b .err || missed b n;
+      slo = b .slo;
+      fast = b .fast || counted b n;
+    }
+
+-- before the first pulse nothing passes
+unfoldable pub later : ℕ → Board → Board
+later n b = pick (b .seen) (passed n b) b
+
+-- STEPS IN BETWEEN
 
 -- a bit that is cleared, or stays with what sets it
 pub cleared : (t a : Bool) → (not t && a) ≡ pick t false a
@@ -142,6 +161,11 @@ unfolding quietSteps
 none-passed b u zero = refl
 none-passed b u (suc n) = ap (λ (d : Board). stepped d false) (none-passed b u n) ∙ waits b u
 
+-- one quiet step is a run of one
+pub quiet-one : (b : Board) → stepped b false ≡ quietSteps 1 b
+unfolding quietSteps
+quiet-one b = refl
+
 pub quiet-later : (n : ℕ) (b : Board) → lawful b ≡ true → quietSteps n b ≡ later n b
 unfolding later
 quiet-later n b h = go (b .seen) refl
@@ -149,3 +173,11 @@ quiet-later n b h = go (b .seen) refl
     go : (t : Bool) → b .seen ≡ t → quietSteps n b ≡ pick (b .seen) (passed n b) b
     go true e = all-passed b e (elapsed-within b h) n ∙ simp e
     go false e = none-passed b e n ∙ simp e
+
+pub later-seen : (n : ℕ) (b : Board) → b .seen ≡ true → later n b ≡ passed n b
+unfolding later
+later-seen n b s = simp s
+
+pub later-unseen : (n : ℕ) (b : Board) → b .seen ≡ false → later n b ≡ b
+unfolding later
+later-unseen n b u = simp u

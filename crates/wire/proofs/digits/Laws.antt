@@ -225,7 +225,14 @@ unfolding packed
 packed-length b k zero ds = refl
 packed-length b k (suc m) ds = ap suc (packed-length b k m (drop k ds))
 
--- TWO TESTS AND CHOICES
+-- TESTS AND CHOICES
+
+pub clash : {A : Type 0} → true ≡ false → A
+clash e = let z : _≡_ {A = ℕ} 0 1 = cc in absurd (omega arith)
+
+pub or-assoc : (a b c : Bool) → ((a || b) || c) ≡ (a || (b || c))
+or-assoc true b c = refl
+or-assoc false b c = refl
 
 pub or-left : (s t : Bool) → (s || t) ≡ false → s ≡ false
 or-left false t e = refl

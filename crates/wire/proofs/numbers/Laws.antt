@@ -1,19 +1,15 @@
 -- A table of refusals gives a number exactly if that line holds and no line above it does, and 0 exactly if none holds. One law for every table, by going
 -- down its lines. Assumes nothing.
 use Prim.Native.Nat.{ℕ}
-use mathlib.Core.Path.{_≡_, refl, sym}
+use mathlib.Core.Path.{_≡_, refl, sym, ap, _∙_}
 use mathlib.Core.Bool.{Bool, true, false, _&&_, not}
 use mathlib.Core.List.{List, [], _∷_, _++_}
 use mathlib.Core.Logic.{_↔_}
-use native.Mathlib.Omega.{arith}
 use lib.Dec.{eqb}
 use borrow.Author.Tests.{eqb-false, not-true}
 use Rattle.wire.specs.Digits.{pick}
 use Rattle.wire.specs.Numbers.{Line, _if_, given, quiet, absent}
-use Rattle.wire.proofs.digits.Laws.{and-left, and-right, and-both}
-
-clash : true ≡ false → ⊥
-clash e = let z : _≡_ {A = ℕ} 0 1 = cc in omega arith
+use Rattle.wire.proofs.digits.Laws.{and-left, and-right, and-both, clash}
 
 -- the number of no line is not given
 absent-step : (t : Bool) (m n g : ℕ) → not (eqb m n) ≡ true → (g ≡ n → ⊥) → pick t m g ≡ n → ⊥
@@ -44,13 +40,19 @@ module _ (n : ℕ) (z : eqb n 0 ≡ false) (after : List Line) (b : absent n aft
 
 -- it holds and no line above it does, so it is given
 quiet-step : (h : Bool) (m g n : ℕ) → not h ≡ true → g ≡ n → pick h m g ≡ n
-quiet-step true m g n q e = absurd (clash (sym q))
+quiet-step true m g n q e = clash (sym q)
 quiet-step false m g n q e = e
 
 pub given-if : (n : ℕ) (before after : List Line) → quiet before ≡ true → given (before ++ (n if true ∷ after)) ≡ n
 given-if n [] after q = refl
 given-if n (l ∷ before) after q =
     quiet-step (l .holds) (l .number) (given (before ++ (n if true ∷ after))) n (and-left (not (l .holds)) (quiet before) q) (given-if n before after (and-right (not (l .holds)) (quiet before) q))
+
+-- so a number is given exactly if its line holds and no line above it does, where no other line has that number
+pub given-exactly : (n : ℕ) (above below : List Line) (t : Bool) → eqb n 0 ≡ false → absent n above ≡ true → absent n below ≡ true
+    → given (above ++ (n if t ∷ below)) ≡ n ↔ ((t ≡ true) × (quiet above ≡ true))
+given-exactly n above below t z a b =
+    (given-only-if n z below b t above a, λ h. ap (λ (s : Bool). given (above ++ (n if s ∷ below))) (h .0) ∙ given-if n above below (h .1))
 
 -- 0 is given exactly if no line holds, by a table none of whose lines has the number 0
 none-step : (h q : Bool) (m g : ℕ) → not (eqb m 0) ≡ true → (g ≡ 0 → q ≡ true) → pick h m g ≡ 0 → not h && q ≡ true
@@ -74,7 +76,7 @@ given-zero ls a = (none-holds ls a, none-given ls)
 
 -- and then the first line does not hold, and none below it
 pub quiet-first : (t q : Bool) → not t && q ≡ true → (t ≡ false) × (q ≡ true)
-quiet-first true q e = absurd (clash (sym e))
+quiet-first true q e = clash (sym e)
 quiet-first false q e = (refl, e)
 
 -- lines behind others are asked when none of those holds

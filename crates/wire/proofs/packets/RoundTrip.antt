@@ -30,7 +30,7 @@ use Rattle.wire.specs.declared.packets.PacketWritten.{PacketWritten}
 use Rattle.wire.specs.declared.packets.Packet.the-variants as Packet
 use Rattle.wire.specs.declared.packets.PacketRead.{PacketRead}
 use Rattle.wire.specs.declared.packets.PacketRead.the-variants as PacketRead
-use Rattle.wire.proofs.digits.Laws.{lt-or-le, and-left, and-right, or-left, or-right, picked, zero-or, below-both, digits-below, digits-length, written, read}
+use Rattle.wire.proofs.digits.Laws.{lt-or-le, and-left, and-right, or-left, or-right, picked, zero-or, below-both, digits-below, digits-length, written, read, clash}
 use Rattle.wire.proofs.numbers.Laws.{given-zero, quiet-first}
 use Rattle.wire.proofs.packets.Read.{is-by, read-is}
 use Rattle.wire.proofs.packets.Laws.{place-has, place-front, framed-row, mode-body, clock-body, generator-body, format-body, offset-body, kinds-one, kinds-two, kinds-cons, kinds-decimal, signedRead, seven-small, values-length, values-below}
@@ -200,10 +200,7 @@ no-end-line : (n len : ℕ) (t u : Bool) → (leb 41 len && not t) ≡ false →
 no-end-line n len t true a b f = refl
 no-end-line n len true false a b f = f refl
 no-end-line n len false false a b f =
-    ⊎-elim (λ l. absurd (bad (simp (le-leb len 40 (omega arith)) at b))) (λ g. absurd (bad (simp (le-leb 41 len g) at a))) (lt-or-le len 41)
-  where
-    bad : true ≡ false → ⊥
-    bad e = let z : _≡_ {A = ℕ} 0 1 = cc in omega arith
+    ⊎-elim (λ l. clash (simp (le-leb len 40 (omega arith)) at b)) (λ g. clash (simp (le-leb 41 len g) at a)) (lt-or-le len 41)
 
 -- 0x17 stands at its place
 place-is : (b : ℕ) (xs : List ℕ) → has b xs ≡ true → getD xs (placeOf b xs) 0 ≡ b

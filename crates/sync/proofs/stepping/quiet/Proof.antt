@@ -4,10 +4,9 @@ use Prim.Native.Nat.{_+_}
 use mathlib.Core.Path.{sym, _∙_}
 use borrow.Author.Tests.{not-true, not-false}
 use Rattle.sync.specs.Counting.{frequency}
-use Rattle.sync.specs.Stepping.{later}
 use Rattle.sync.proofs.lawful.Laws.{elapsed-within}
 use Rattle.sync.proofs.counting.Laws.{frequency-above}
-use Rattle.sync.proofs.stepping.Laws.{quiet-later, held-most, held-late, count-of-held}
+use Rattle.sync.proofs.stepping.Laws.{later, quiet-later, held-most, held-late, count-of-held}
 use Rattle.sync.proofs.stepping.quiet.Statement.{statement}
 use Rattle.sync.proofs.stepping.quiet.Tie as tie
 
