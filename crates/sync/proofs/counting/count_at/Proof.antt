@@ -27,7 +27,7 @@ returns c =
     (sym (count-below (frequency (p .before .args .rc1)) (frequency-above (p .before .args .rc1)) (p .before .args .elapsed) (rw (p .frequency-of .ensures) at (c .if1 .taken))))
 
 sub-result : tie.Need-sub-result
-sub-result c = rw (c .before .frequency-of .ensures) (frequency-above (c .before .before .args .rc1))
+sub-result c = omega (arith, c .before .frequency-of .ensures, frequency-above (c .before .before .args .rc1))
 
 returns-2 : tie.Need-returns-2
 returns-2 c =
