@@ -218,12 +218,12 @@ since b h ks q = since-at b (lastAll ks) (afterAll ks (after (Call.step true) b)
 
 -- ONE MICROSECOND
 
--- what a pulse leaves, whatever came before: the switches, and a new gap
-abbrev Pulsed : Board → Bool → Bool → Board
+-- what a pulse leaves: the switches, SLO and FAST waiting, and a new gap
+abbrev pub Pulsed : Board → Bool → Bool → Board
 Pulsed b bit err = record { rc1 = b .rc1; base = b .base; seen = true; elapsed = 0; bit = bit; err = err; slo = true; fast = true }
 
 module _ (b : Board) (h : lawful b ≡ true) where
-  pulsed-is : after (Call.step true) b ≡ Pulsed b (not (inTime b)) (b .err || errs b true)
+  pub pulsed-is : after (Call.step true) b ≡ Pulsed b (not (inTime b)) (b .err || errs b true)
   unfolding stepped
   pulsed-is = step-done b h true ∙ simp (or-true) (ap (λ (t : Bool). Pulsed b t (b .err || errs b true)) (pulse-bit b h))
 

@@ -4,7 +4,7 @@ ghost use Prim.Native.Nat.{_≤_};
 ghost use Rattle.sync.specs.Counting.{frequency, count};
 
 // The frequency that RC1 selects.
-fn frequency_of(rc1: u8) -> u32
+pub(crate) fn frequency_of(rc1: u8) -> u32
     ensures { λ r. ⌜ r ≡ frequency rc1 ⌝ }
 {
     match rc1 {

@@ -2,11 +2,14 @@
 use crate::board::Answer;
 use crate::board::Board;
 use crate::counting::count_at;
+use crate::counting::frequency_of;
 use crate::lawful::is_lawful;
 use wire::numbers;
 ghost use mathlib.Core.Path.{_≡_};
-ghost use mathlib.Core.Bool.{true, false};
+ghost use mathlib.Core.Bool.{true, _||_};
 ghost use Prim.Native.Nat.{_+_, _≤_};
+ghost use lib.Dec.{ltb};
+ghost use Rattle.sync.specs.Counting.{frequency, count};
 ghost use Rattle.sync.specs.Stepping.{held, stepped, quietSteps, step, run};
 ghost use Rattle.sync.specs.Lawful.{lawful};
 
@@ -30,6 +33,19 @@ fn held_after(elapsed: u32, n: u64) -> u32
     LATE
 }
 
+// Whether FAST waits at a later microsecond: it did, or the next count has come by then. Nothing is counted if it waits already.
+fn fast_at(board: Board, to: u32) -> bool
+    requires { ⌜ (board .elapsed ≤ to) × (to ≤ 1008001) ⌝ }
+    ensures { λ r. ⌜ r ≡ (board .fast || ltb (count (frequency (board .rc1)) (board .elapsed)) (count (frequency (board .rc1)) to)) ⌝ }
+{
+    if board.fast {
+        return true;
+    }
+    let f = frequency_of(board.rc1);
+    let next = count_at(board.rc1, board.elapsed) + 1;
+    (next < f) & (next * 1_000_000 <= to * f)
+}
+
 // The board after so many quiet microseconds, however many.
 fn quiet(board: Board, n: u64) -> Board
     requires { ⌜ lawful board ≡ true ⌝ }
@@ -40,13 +56,12 @@ fn quiet(board: Board, n: u64) -> Board
     }
     let from = board.elapsed;
     let to = held_after(from, n);
-    let counted = count_at(board.rc1, from) < count_at(board.rc1, to);
     let missed = (from < LATE) & (to == LATE);
     let mut b = board;
     b.elapsed = to;
     b.bit = board.bit | missed;
     b.err = board.err | missed;
-    b.fast = board.fast | counted;
+    b.fast = fast_at(board, to);
     b
 }
 

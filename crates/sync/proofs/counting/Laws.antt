@@ -104,6 +104,30 @@ module _ (f : ℕ) (above : 0 < f) where
   count-late m h =
       count-held m (let l : 1000000 * f ≤ m * f = mul-le-mul {n₁ = 1000000} {m₁ = f} {n₂ = m} {m₂ = f} h (omega arith) in omega arith)
 
+  -- THE NEXT COUNT
+
+  later-count : (k n : ℕ) → k + 1 < f → k + 1 ≤ n * f / 1000000 → k < count f n
+  later-count k n l h =
+      ⊎-elim
+      (λ q. let c = count-below n q in omega arith)
+      (λ g. let c = count-held n g in omega arith)
+      (lt-or-le (n * f / 1000000) f)
+
+  -- the count rises by a later microsecond exactly if it is not held and the next one has come by then
+  pub next-come : (m n : ℕ) → m ≤ n → (ltb (count f m + 1) f && leb ((count f m + 1) * 1000000) (n * f)) ≡ ltb (count f m) (count f n)
+  next-come m n h =
+      let s : m * f ≤ n * f = mul-le-mul {n₁ = m} {m₁ = f} {n₂ = n} {m₂ = f} h (omega arith) in
+      ⊎-elim
+      (λ l. let e = count-below m l in ⊎-elim
+      (λ k. rw (lt-ltb (count f m + 1) f (omega arith)) (⊎-elim
+      (λ (o : n * f < (count f m + 1) * 1000000). let c = count-below n (omega arith) in lt-leb _ _ o ∙ sym (le-ltb (count f m) (count f n) (omega arith)))
+      (λ (o : (count f m + 1) * 1000000 ≤ n * f). le-leb _ _ o ∙ sym (lt-ltb (count f m) (count f n) (later-count (count f m) n (omega arith) (omega arith))))
+      (lt-or-le (n * f) ((count f m + 1) * 1000000))))
+      (λ k. rw (le-ltb (count f m + 1) f k) (sym (le-ltb (count f m) (count f n) (let c = count-least n in omega arith))))
+      (lt-or-le (count f m + 1) f))
+      (λ g. let e = count-held m g in rw (le-ltb (count f m + 1) f (omega arith)) (sym (le-ltb (count f m) (count f n) (let c = count-least n in omega arith))))
+      (lt-or-le (m * f / 1000000) f)
+
 -- RISING
 
 -- by a later microsecond no fewer have come
@@ -174,3 +198,7 @@ frequency-most rc1 = frequency-within rc1 .1
 
 pub count-small : (rc1 m : ℕ) → count (frequency rc1) m < 256
 count-small rc1 m = let l = count-least (frequency rc1) (frequency-above rc1) m in omega (arith, frequency-most rc1)
+
+-- what the code multiplies fits in 32 bits
+pub scaled-most : (rc1 e : ℕ) → e ≤ 1008001 → e * frequency rc1 ≤ 1008001 * 256
+scaled-most rc1 e h = mul-le-mul {n₁ = e} {m₁ = frequency rc1} {n₂ = 1008001} {m₂ = 256} h (frequency-most rc1)

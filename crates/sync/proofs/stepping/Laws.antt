@@ -73,6 +73,9 @@ held-within m h = ⊎-elim (held-below m) (λ g. held-above m g ∙ omega arith)
 pub held-most : (m : ℕ) → held m ≤ 1008001
 held-most m = ⊎-elim (λ l. let e = held-below m l in omega arith) (λ g. let e = held-above m g in omega arith) (lt-or-le m 1008001)
 
+pub held-least : (m n : ℕ) → m ≤ 1008001 → m ≤ held (m + n)
+held-least m n h = ⊎-elim (λ l. let e = held-below (m + n) l in omega arith) (λ g. let e = held-above (m + n) g in omega arith) (lt-or-le (m + n) 1008001)
+
 -- at its end exactly if it is held there
 pub held-late : (m : ℕ) → eqb (held m) 1008001 ≡ leb 1008001 m
 held-late m =

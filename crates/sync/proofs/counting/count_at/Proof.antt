@@ -2,11 +2,10 @@
 -- Assumes nothing.
 use Prim.Native.Nat.{_*_, _≤_}
 use mathlib.Core.Path.{sym}
-use native.Mathlib.Nat.{mul-le-mul}
 use native.Mathlib.Omega.{arith}
 use borrow.Author.Needs.{needs}
 use Rattle.sync.specs.Counting.{frequency}
-use Rattle.sync.proofs.counting.Laws.{count-below, count-held, frequency-above, frequency-most}
+use Rattle.sync.proofs.counting.Laws.{count-below, count-held, frequency-above, scaled-most}
 use Rattle.sync.proofs.counting.count_at.Statement.{statement}
 use Rattle.sync.proofs.counting.count_at.Tie as tie
 
@@ -15,9 +14,8 @@ frequency-of-requires c κs = search needs
 
 mul-n : tie.Need-mul-n
 mul-n c =
-    let e = c .before .args .elapsed in
-    let f = c .frequency-of .result in
-    let h : e * f ≤ 1008001 * 256 = mul-le-mul {n₁ = e} {m₁ = f} {n₂ = 1008001} {m₂ = 256} (c .before .pre) (rw (c .frequency-of .ensures) (frequency-most (c .before .args .rc1))) in
+    let a = c .before .args in
+    let h : a .elapsed * c .frequency-of .result ≤ 1008001 * 256 = rw (c .frequency-of .ensures) (scaled-most (a .rc1) (a .elapsed) (c .before .pre)) in
     omega arith
 
 returns : tie.Need-returns
