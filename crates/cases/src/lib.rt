@@ -1,6 +1,8 @@
-// A call as a line of cases writes it: a letter, and decimal numbers, each behind a space.
+// The numbers of a script, decimal and each behind a space: read from a line, which is a letter and its numbers, and written to standard output.
 //
-// What is proved: the number behind so many spaces is what the definitions in specs/ read there, for every text.
+// What is proved: the number behind so many spaces is what the definitions in specs/ read there, for every text. Of the writing, only that nothing goes wrong.
+pub mod writing;
+
 use wire::time::Ticks;
 ghost use mathlib.Core.Path.{_≡_};
 ghost use Prim.Native.Nat.{_-_, _%_};

@@ -1,5 +1,9 @@
-// What is told: numbers, each behind a space.
+// What is told of a card, and of the rows that its calls fill: numbers, each behind a space.
 use card::card::Card;
+use cases::writing::put;
+use cases::writing::put_bool;
+use cases::writing::put_byte;
+use cases::writing::put_short;
 use clock::clock::Clock;
 use clock::clock::Periodic;
 use clock::clock::Strobe;
@@ -14,19 +18,6 @@ use wire::packets::Format;
 use wire::packets::Generator;
 use wire::packets::Modulation;
 use wire::packets::offset_size;
-
-pub fn put(n: u64) {
-    io::write_all(STDOUT_FILENO, b" ");
-    io::print_decimal(STDOUT_FILENO, n);
-}
-
-pub fn put_byte(b: u8) {
-    put(b as u64);
-}
-
-pub fn put_short(n: u16) {
-    put(n as u64);
-}
 
 pub fn put_bytes(row: &[u8; 12]) {
     for i in 0..12 {
@@ -46,10 +37,6 @@ pub fn put_words(words: [u16; 5]) {
     put_short(words[2]);
     put_short(words[3]);
     put_short(words[4]);
-}
-
-pub fn put_bool(b: bool) {
-    put(if b { 1 } else { 0 });
 }
 
 fn put_time(t: Time) {
