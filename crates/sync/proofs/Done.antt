@@ -1,11 +1,11 @@
 -- What a lawful board is after each call. Assumes nothing.
 use Prim.Native.Nat.{ℕ}
-use mathlib.Core.Path.{_≡_, refl, _∙_}
+use mathlib.Core.Path.{_≡_, _∙_}
 use mathlib.Core.Bool.{Bool, true, false}
 use Rattle.sync.specs.declared.board.Board.{Board}
 use Rattle.sync.specs.Boards.{switchesFit, started}
 use Rattle.sync.specs.Lawful.{lawful}
-use Rattle.sync.specs.Stepping.{stepped, quietSteps}
+use Rattle.sync.specs.Stepping.{stepped}
 use Rattle.sync.specs.Interrupts.{next, nextTaken, takeInterrupt}
 use Rattle.sync.specs.Register.{shown, readRegister}
 use Rattle.sync.specs.Calls.{Call, after}
@@ -14,6 +14,9 @@ use Rattle.sync.proofs.stepping.Laws.{later, quiet-one, quiet-later}
 module _ (b : Board) (h : lawful b ≡ true) where
   pub set-done : (rc1 base : ℕ) → switchesFit rc1 base ≡ true → after (Call.setSwitches rc1 base) b ≡ started rc1 base
   set-done rc1 base f = simp (h, f)
+
+  pub set-refused : (rc1 base : ℕ) → switchesFit rc1 base ≡ false → after (Call.setSwitches rc1 base) b ≡ b
+  set-refused rc1 base f = simp (h, f)
 
   pub step-done : (pulse : Bool) → after (Call.step pulse) b ≡ stepped b pulse
   step-done pulse = simp h

@@ -1,19 +1,18 @@
 -- Every call leaves a lawful board lawful, and so does every chain of calls. Assumes nothing.
 use Prim.Native.Nat.{ℕ, _+_, _≤_, _<_}
-use mathlib.Core.Path.{_≡_, refl, sym, ap, _∙_}
-use mathlib.Core.Bool.{Bool, true, false, _&&_, _||_, not, or-true, or-false}
+use mathlib.Core.Path.{_≡_, refl, sym, _∙_}
+use mathlib.Core.Bool.{Bool, true, false, _||_, not, or-true, or-false}
 use mathlib.Core.List.{List, [], _∷_}
 use mathlib.Core.Logic.{⊎-elim}
 use native.Mathlib.Omega.{arith}
-use lib.Dec.{ltb, leb, eqb}
-use borrow.Author.Tests.{lt-ltb, le-ltb, le-leb, lt-leb, ltb-true}
+use lib.Dec.{ltb, eqb}
+use borrow.Author.Tests.{lt-ltb, le-leb, lt-leb, ltb-true}
 use Rattle.wire.specs.Digits.{pick}
-use Rattle.wire.specs.Numbers.{given}
 use Rattle.wire.proofs.digits.Laws.{clash, lt-or-le}
 use Rattle.sync.specs.declared.board.Board.{Board}
-use Rattle.sync.specs.Boards.{switchesFit, started, freshBoard}
+use Rattle.sync.specs.Boards.{switchesFit, started, freshBoard, withWaiting}
 use Rattle.sync.specs.Lawful.{unseenLawful, seenLawful, lawful}
-use Rattle.sync.specs.Stepping.{held, stepped, quietSteps}
+use Rattle.sync.specs.Stepping.{stepped}
 use Rattle.sync.specs.Interrupts.{nextTaken}
 use Rattle.sync.specs.Calls.{Call, after, afterAll}
 use Rattle.sync.proofs.interrupts.Laws.{err-first, slo-next, fast-last, none-waits}
@@ -81,10 +80,10 @@ run-lawful n b h = go (b .seen) refl
 module _ (b : Board) (h : lawful b ≡ true) where
   -- once ERR does not wait, SLO still waits only with FAST
   flags-lawful : b .seen ≡ true → (slo fast : Bool) → (not slo || fast) ≡ true
-      → lawful (record { rc1 = b .rc1; base = b .base; seen = b .seen; elapsed = b .elapsed; bit = b .bit; err = false; slo = slo; fast = fast }) ≡ true
+      → lawful (withWaiting b false slo fast) ≡ true
   flags-lawful s slo fast f = seen-lawful _ (switches-fit b h) s (go (ltb (b .elapsed) 1008001) refl)
     where
-      go : (t : Bool) → ltb (b .elapsed) 1008001 ≡ t → seenLawful (record { rc1 = b .rc1; base = b .base; seen = b .seen; elapsed = b .elapsed; bit = b .bit; err = false; slo = slo; fast = fast }) ≡ true
+      go : (t : Bool) → ltb (b .elapsed) 1008001 ≡ t → seenLawful (withWaiting b false slo fast) ≡ true
       go true l = within-lawful _ f (ltb-true (b .elapsed) 1008001 l) refl
       go false l = let q = seen-late b (seen-fits b s h) l in late-lawful _ f (q .at) (q .bit)
 

@@ -2,11 +2,11 @@
 -- exactly if some calls leave it. Assumes nothing.
 use Prim.Native.Nat.{ℕ, _+_, _<_}
 use mathlib.Core.Path.{_≡_, refl, sym, ap, ap₂, _∙_}
-use mathlib.Core.Bool.{Bool, true, false, _&&_, _||_, not, or-false}
+use mathlib.Core.Bool.{Bool, true, false, _||_, not, or-false}
 use mathlib.Core.List.{List, [], _∷_, _++_}
 use mathlib.Core.Logic.{_↔_}
 use native.Mathlib.Omega.{arith}
-use lib.Dec.{ltb, leb, lit<, lit≤}
+use lib.Dec.{ltb, lit<, lit≤}
 use borrow.Author.Tests.{ltb-true, lt-leb}
 use Rattle.wire.specs.Digits.{pick}
 use Rattle.wire.proofs.digits.Laws.{clash}
@@ -20,8 +20,8 @@ use Rattle.sync.specs.Calls.{Call, after, afterAll}
 use Rattle.sync.specs.Runs.{Left, downTo, pulsesTo, wayWithin, wayLate, way}
 use Rattle.sync.proofs.counting.Laws.{count-rises, frequency-above}
 use Rattle.sync.proofs.lawful.Laws.{switches-fit, seen-fits, still, slo-with-fast, err-with-slo, seen-late, within-lawful, late-lawful, seen-lawful}
-use Rattle.sync.proofs.stepping.Laws.{passed, later, held-below, falls-late}
-use Rattle.sync.proofs.Keeps.{fresh-lawful, keeps, keeps-all, started-lawful}
+use Rattle.sync.proofs.stepping.Laws.{later, held-below, falls-late}
+use Rattle.sync.proofs.Keeps.{fresh-lawful, keeps-all, started-lawful}
 use Rattle.sync.proofs.Done.{set-done, step-done, run-done, take-done}
 
 -- one behind the other
@@ -167,9 +167,9 @@ module _ (b : Board) (h : lawful b ≡ true) where
       let q = still b u h in
       rw (u, q .elapsed, q .bit, q .err, q .slo, q .fast) refl
 
-pub reached : (b : Board) → lawful b ≡ true → afterAll (way b) freshBoard ≡ b
+pub way-leaves : (b : Board) → lawful b ≡ true → afterAll (way b) freshBoard ≡ b
 unfolding way
-reached b h =
+way-leaves b h =
     ap (afterAll (pick (b .seen) (pick (ltb (b .elapsed) 1008001) (wayWithin b) (wayLate b)) [])) (set-done freshBoard fresh-lawful (b .rc1) (b .base) (switches-fit b h))
     ∙ rest-leaves b h (b .seen) refl (ltb (b .elapsed) 1008001) refl
 
@@ -177,4 +177,4 @@ reached b h =
 
 pub lawful-exactly-if : (b : Board) → lawful b ≡ true ↔ Left b
 lawful-exactly-if b =
-    (λ h. record { calls = way b; leave = reached b h }, λ l. rw (sym (l .leave)) (keeps-all (l .calls) freshBoard fresh-lawful))
+    (λ h. record { calls = way b; leave = way-leaves b h }, λ l. rw (sym (l .leave)) (keeps-all (l .calls) freshBoard fresh-lawful))

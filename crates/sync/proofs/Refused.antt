@@ -1,15 +1,11 @@
 -- A refused call changes nothing and gives nothing. Assumes nothing.
-use Prim.Native.Nat.{ℕ}
-use mathlib.Core.Path.{_≡_, refl, sym, ap, _∙_}
-use mathlib.Core.Bool.{Bool, true, false}
-use mathlib.Core.List.{[], _∷_}
+use mathlib.Core.Path.{_≡_, refl, _∙_}
+use mathlib.Core.Bool.{false}
 use lib.Dec.{eqb}
 use borrow.Author.Tests.{ne-eqb}
-use Rattle.wire.specs.Digits.{pick}
 use Rattle.wire.specs.Numbers.{given}
 use Rattle.sync.specs.declared.board.Board.{Board}
-use Rattle.sync.specs.Lawful.{lawful}
-use Rattle.sync.specs.Calls.{Call, after, number, values, beside, lines, vectors}
+use Rattle.sync.specs.Calls.{Call, after, number, values, beside, lines}
 use Rattle.sync.proofs.Numbers.{number-given}
 
 module _ (k : Call) (b : Board) (h : number k b ≡ 0 → ⊥) where

@@ -1,34 +1,33 @@
 -- Laws over runs: a run is as many single steps; what holds after a pulse, whatever quiet calls are made; what holds before the first. Assumes nothing.
-use Prim.Native.Nat.{ℕ, zero, suc, _+_, _≤_, _<_}
+use Prim.Native.Nat.{ℕ, zero, suc, _+_, _≤_}
 use mathlib.Core.Path.{_≡_, refl, sym, ap, ap₂, _∙_}
 use mathlib.Core.Bool.{Bool, true, false, _&&_, _||_, not, or-true, or-false}
 use mathlib.Core.List.{List, [], _∷_}
-use mathlib.Core.Logic.{_⊎_, inl, inr, ⊎-elim}
+use mathlib.Core.Logic.{_⊎_, ⊎-elim}
 use native.Mathlib.Nat.{add-zero, zero-add, add-assoc}
 use native.Mathlib.Omega.{arith}
 use lib.Dec.{leb, ltb, eqb}
 use lib.ListN.{replicate}
-use borrow.Author.Tests.{le-leb, lt-leb, lt-ltb, le-ltb, eq-eqb, ne-eqb, not-false}
+use borrow.Author.Tests.{le-leb, lt-leb, lt-ltb, le-ltb, eq-eqb, ne-eqb, not-true, not-false}
 use Rattle.wire.specs.Digits.{pick}
 use Rattle.wire.specs.Numbers.{given}
 use Rattle.wire.proofs.digits.Laws.{and-both, clash, lt-or-le, or-assoc, or-left, or-right}
 use Rattle.sync.specs.declared.board.Board.{Board}
-use Rattle.sync.specs.declared.interrupts.Interrupt.the-variants as Interrupt
-use Rattle.sync.specs.Boards.{switchesFit, started, freshBoard}
+use Rattle.sync.specs.Boards.{switchesFit, started, freshBoard, withWaiting}
 use Rattle.sync.specs.Counting.{frequency, count, countFalls}
 use Rattle.sync.specs.Lawful.{lawful}
 use Rattle.sync.specs.Stepping.{held, reached, inTime, errs, counts, stepped, quietSteps}
 use Rattle.sync.specs.Switches.{switchLines}
 use Rattle.sync.specs.Register.{shown, readRegister}
-use Rattle.sync.specs.Interrupts.{errTaken, sloTaken, fastTaken, nextTaken, takeInterrupt}
+use Rattle.sync.specs.Interrupts.{errTaken, sloTaken, fastTaken, nextTaken}
 use Rattle.sync.specs.Calls.{Call, after, afterAll}
-use Rattle.sync.specs.Runs.{quiet, allQuiet, lasts, lastAll, Since, pulse, pulseless, Before}
+use Rattle.sync.specs.Runs.{pulsedBoard, quietCall, quietCalls, lasts, lastsAll, Since, pulse, pulseless, Before}
 use Rattle.sync.proofs.counting.Laws.{count-none, frequency-above}
 use Rattle.sync.proofs.lawful.Laws.{still, seen-fits, seen-late}
-use Rattle.sync.proofs.stepping.Laws.{missed, passed, later, held-below, held-above, falls-late, count-of-held, later-seen, later-unseen}
+use Rattle.sync.proofs.stepping.Laws.{passed, later, held-below, as-held, held-plus, falls-held, count-of-held, later-seen, later-unseen}
 use Rattle.sync.proofs.interrupts.Laws.{none-waits}
-use Rattle.sync.proofs.Keeps.{keeps, keeps-all, fresh-lawful}
-use Rattle.sync.proofs.Done.{set-done, step-done, run-done, quiet-done, read-done, take-done, vector-done}
+use Rattle.sync.proofs.Keeps.{keeps, keeps-all, started-lawful}
+use Rattle.sync.proofs.Done.{set-done, set-refused, step-done, run-done, quiet-done, read-done, take-done, vector-done}
 
 -- A RUN IS AS MANY SINGLE STEPS
 
@@ -102,13 +101,6 @@ at-pulse b h =
       bit = pulse-bit b h ∙ sym (or-false (not (inTime b)));
     })
 
-held-plus : (j n : ℕ) → held (held j + n) ≡ held (j + n)
-held-plus j n =
-    ⊎-elim
-    (λ l. ap (λ (x : ℕ). held (x + n)) (held-below j l))
-    (λ g. ap (λ (x : ℕ). held (x + n)) (held-above j g) ∙ held-above (1008001 + n) (omega arith) ∙ sym (held-above (j + n) (omega arith)))
-    (lt-or-le j 1008001)
-
 missed-plus : (j n : ℕ) → (leb 1008001 j || (ltb (held j) 1008001 && leb 1008001 (held j + n))) ≡ leb 1008001 (j + n)
 missed-plus j n =
     ⊎-elim
@@ -144,24 +136,24 @@ module _ (b : Board) where
       either true x y f g = f
       either false x y f g = g
 
-      flags : (err slo fast : Bool) → lawful (record { rc1 = d .rc1; base = d .base; seen = d .seen; elapsed = d .elapsed; bit = d .bit; err = err; slo = slo; fast = fast }) ≡ true
-          → At b j (record { rc1 = d .rc1; base = d .base; seen = d .seen; elapsed = d .elapsed; bit = d .bit; err = err; slo = slo; fast = fast })
+      flags : (err slo fast : Bool) → lawful (withWaiting d err slo fast) ≡ true
+          → At b j (withWaiting d err slo fast)
       flags err slo fast h = record { known = h; seen = a .seen; rc1 = a .rc1; elapsed = a .elapsed; bit = a .bit }
 
   -- whatever quiet call is made
-  at-call : (k : Call) (j : ℕ) (d : Board) → quiet k ≡ true → At b j d → At b (j + lasts k) (after k d)
-  at-call (Call.setSwitches rc1 base) j d q a = clash (sym q)
+  at-call : (k : Call) (j : ℕ) (d : Board) → quietCall k ≡ true → At b j d → At b (j + lasts k) (after k d)
+  at-call (Call.setSwitches rc1 base) j d q a = rw (add-zero j, set-refused d (a .known) rc1 base (not-true (switchesFit rc1 base) q)) a
   at-call (Call.step true) j d q a = clash (sym q)
   at-call (Call.step false) j d q a = at-run (Call.step false) j 1 d a (quiet-done d (a .known))
   at-call (Call.run n) j d q a = at-run (Call.run n) j n d a (run-done d (a .known) n)
   at-call Call.read j d q a = rw (add-zero j) a
   at-call Call.take j d q a = rw (add-zero j, take-done d (a .known)) (at-taken j d a (rw (sym (take-done d (a .known))) (keeps Call.take d (a .known))))
 
-  at-all : (ks : List Call) (j : ℕ) (d : Board) → allQuiet ks ≡ true → At b j d → At b (j + lastAll ks) (afterAll ks d)
+  at-all : (ks : List Call) (j : ℕ) (d : Board) → quietCalls ks ≡ true → At b j d → At b (j + lastsAll ks) (afterAll ks d)
   at-all [] j d q a = rw (add-zero j) a
   at-all (k ∷ ks) j d q a =
-      let p = and-both (quiet k) (allQuiet ks) q in
-      rw (sym (add-assoc j (lasts k) (lastAll ks))) (at-all ks (j + lasts k) (after k d) (p .1) (at-call k j d (p .0) a))
+      let p = and-both (quietCall k) (quietCalls ks) q in
+      rw (sym (add-assoc j (lasts k) (lastsAll ks))) (at-all ks (j + lasts k) (after k d) (p .1) (at-call k j d (p .0) a))
 
   -- THE REGISTER, AND THE NEXT MICROSECOND
 
@@ -174,9 +166,7 @@ module _ (b : Board) where
 
     -- a test of the next microsecond goes as if it were not held
     next-is : (test : ℕ → Bool) → (1008001 ≤ j → test 1008002 ≡ test (j + 1)) → test (reached d) ≡ test (j + 1)
-    next-is test f =
-        ap (λ (x : ℕ). test (x + 1)) (a .elapsed)
-        ∙ ⊎-elim (λ l. ap (λ (x : ℕ). test (x + 1)) (held-below j l)) (λ g. ap (λ (x : ℕ). test (x + 1)) (held-above j g) ∙ f g) (lt-or-le j 1008001)
+    next-is test f = ap (λ (x : ℕ). test (x + 1)) (a .elapsed) ∙ as-held (λ (x : ℕ). test (x + 1)) j f
 
     late-next : eqb (reached d) 1008001 ≡ eqb (j + 1) 1008001
     late-next = next-is (λ (x : ℕ). eqb x 1008001) (λ g. sym (ne-eqb (j + 1) 1008001 (λ q. omega arith)))
@@ -193,8 +183,7 @@ module _ (b : Board) where
     counts-next : counts d ≡ countFalls (frequency (b .rc1)) (j + 1)
     unfolding counts
     counts-next =
-        simp (a .seen, a .rc1)
-        (next-is (countFalls (frequency (b .rc1))) (λ g. let f = frequency-above (b .rc1) in falls-late (frequency (b .rc1)) 1008001 f (omega arith) ∙ sym (falls-late (frequency (b .rc1)) j f (omega arith))))
+        simp (a .seen, a .rc1, a .elapsed) (falls-held (frequency (b .rc1)) j (frequency-above (b .rc1)))
 
     errs-next : (pulse : Bool) → errs d pulse ≡ ((pulse && ltb (j + 1) 992000) || eqb (j + 1) 1008001)
     unfolding errs
@@ -209,36 +198,33 @@ module _ (b : Board) where
           quiet-slo = ap (λ (x : Board). x .slo) (step-done d (a .known) false) ∙ or-false (d .slo);
           quiet-fast = ap (λ (x : Board). x .fast) (step-done d (a .known) false) ∙ ap (λ (t : Bool). d .fast || t) counts-next;
           pulse-err = ap (λ (x : Board). x .err) (step-done d (a .known) true) ∙ ap (λ (t : Bool). d .err || t) (errs-next true);
+          in-time = in-time-next;
           pulse-bit = at-pulse d (a .known) .bit ∙ or-false (not (inTime d)) ∙ ap not in-time-next;
         }
 
 -- the page's law: a pulse, and any quiet calls after it
-pub since : (b : Board) → lawful b ≡ true → (ks : List Call) → allQuiet ks ≡ true → Since b (lastAll ks) (afterAll ks (after (Call.step true) b))
-since b h ks q = since-at b (lastAll ks) (afterAll ks (after (Call.step true) b)) (rw (zero-add (lastAll ks)) at (at-all b ks 0 (after (Call.step true) b) q (at-pulse b h)))
+pub since : (b : Board) → lawful b ≡ true → (ks : List Call) → quietCalls ks ≡ true → Since b (lastsAll ks) (afterAll ks (after (Call.step true) b))
+since b h ks q = since-at b (lastsAll ks) (afterAll ks (after (Call.step true) b)) (rw (zero-add (lastsAll ks)) at (at-all b ks 0 (after (Call.step true) b) q (at-pulse b h)))
 
 -- ONE MICROSECOND
 
--- what a pulse leaves: the switches, SLO and FAST waiting, and a new gap
-abbrev pub Pulsed : Board → Bool → Bool → Board
-Pulsed b bit err = record { rc1 = b .rc1; base = b .base; seen = true; elapsed = 0; bit = bit; err = err; slo = true; fast = true }
-
 module _ (b : Board) (h : lawful b ≡ true) where
-  pub pulsed-is : after (Call.step true) b ≡ Pulsed b (not (inTime b)) (b .err || errs b true)
+  pub pulsed-is : after (Call.step true) b ≡ pulsedBoard b (not (inTime b)) (b .err || errs b true)
   unfolding stepped
-  pulsed-is = step-done b h true ∙ simp (or-true) (ap (λ (t : Bool). Pulsed b t (b .err || errs b true)) (pulse-bit b h))
+  pulsed-is = step-done b h true ∙ simp (or-true) (ap (λ (t : Bool). pulsedBoard b t (b .err || errs b true)) (pulse-bit b h))
 
   -- the first pulse ever is in time, whatever time went by
-  pub first-pulse : b .seen ≡ false → after (Call.step true) b ≡ Pulsed b false false
+  pub first-pulse : b .seen ≡ false → after (Call.step true) b ≡ pulsedBoard b false false
   unfolding inTime errs
   first-pulse u = pulsed-is ∙ simp (u, still b u h .err)
 
   -- an error and a late pulse on one microsecond: one ERR, and the bit stays set
-  pub error-with-pulse : b .seen ≡ true → b .elapsed ≡ 1008000 → after (Call.step true) b ≡ Pulsed b true true
+  pub error-with-pulse : b .seen ≡ true → b .elapsed ≡ 1008000 → after (Call.step true) b ≡ pulsedBoard b true true
   unfolding inTime errs
   error-with-pulse s e = pulsed-is ∙ simp (s, e, or-true)
 
   -- a late pulse after the error raises no second one, and leaves the bit set
-  pub late-pulse : b .seen ≡ true → b .elapsed ≡ 1008001 → after (Call.step true) b ≡ Pulsed b true (b .err)
+  pub late-pulse : b .seen ≡ true → b .elapsed ≡ 1008001 → after (Call.step true) b ≡ pulsedBoard b true (b .err)
   unfolding inTime errs
   late-pulse s e = pulsed-is ∙ simp (s, e, or-false)
 
@@ -272,8 +258,20 @@ before-is d h u =
       waits = vector-done d h ∙ none-waits d (q .err) (q .slo) (q .fast) .0;
     }
 
-pub before : (ks : List Call) → pulseless ks ≡ true → Before (afterAll ks freshBoard)
-before ks q = before-is (afterAll ks freshBoard) (keeps-all ks freshBoard fresh-lawful) (unseen-all ks freshBoard fresh-lawful refl q)
+module _ (ks : List Call) (q : pulseless ks ≡ true) where
+  before-started : (rc1 base : ℕ) → switchesFit rc1 base ≡ true → Before (afterAll ks (started rc1 base))
+  before-started rc1 base f =
+      let h = started-lawful rc1 base f in
+      before-is (afterAll ks (started rc1 base)) (keeps-all ks (started rc1 base) h) (unseen-all ks (started rc1 base) h refl q)
+
+  -- from a fresh board
+  pub before : Before (afterAll ks freshBoard)
+  unfolding switchesFit
+  before = before-started 1 0 refl
+
+  -- and from any lawful board whose switches are set
+  pub before-anew : (b : Board) → lawful b ≡ true → (rc1 base : ℕ) → switchesFit rc1 base ≡ true → Before (afterAll ks (after (Call.setSwitches rc1 base) b))
+  before-anew b h rc1 base f = rw (set-done b h rc1 base f) (before-started rc1 base f)
 
 -- STARTED ANEW
 

@@ -1,23 +1,18 @@
 -- Taking goes ERR, SLO, FAST, one by one, and each waits once at most: after its taking it waits no more, and after three takings none does. Said of the call.
 -- Assumes nothing.
 use Prim.Native.Nat.{_+_}
-use mathlib.Core.Path.{_≡_, refl, sym, ap, _∙_}
+use mathlib.Core.Path.{_≡_, refl, ap, _∙_}
 use mathlib.Core.Bool.{Bool, true, false}
-use mathlib.Core.List.{List, [], _∷_}
 use Rattle.sync.specs.declared.board.Board.{Board}
 use Rattle.sync.specs.declared.interrupts.Interrupt.{Interrupt}
 use Rattle.sync.specs.declared.interrupts.Interrupt.the-variants as Interrupt
 use Rattle.sync.specs.Lawful.{lawful}
 use Rattle.sync.specs.Interrupts.{errTaken, sloTaken, fastTaken, next, nextTaken, takeInterrupt}
 use Rattle.sync.specs.Calls.{Call, after, afterAll}
-use Rattle.sync.specs.Runs.{takings}
+use Rattle.sync.specs.Runs.{takings, Gives}
 use Rattle.sync.proofs.interrupts.Laws.{err-first, slo-next, fast-last, none-waits}
 use Rattle.sync.proofs.Keeps.{keeps, keeps-all}
 use Rattle.sync.proofs.Done.{take-done, vector-done}
-
--- what a taking gives, and the board that it leaves
-abbrev pub Gives : Board → Interrupt → Board → Type 0
-Gives b i d = (takeInterrupt b .interrupt ≡ i) × (after Call.take b ≡ d)
 
 module _ (b : Board) (h : lawful b ≡ true) where
   gives : (i : Interrupt) (d : Board) → (next b ≡ i) × (nextTaken b ≡ d) → Gives b i d

@@ -20,6 +20,10 @@ started rc1 base = record { rc1 = rc1; base = base; seen = false; elapsed = 0; b
 abbrev pub freshBoard : Board
 freshBoard = started 1 0
 
+-- the board with just these waiting
+abbrev pub withWaiting : Board → Bool → Bool → Bool → Board
+withWaiting b err slo fast = record { rc1 = b .rc1; base = b .base; seen = b .seen; elapsed = b .elapsed; bit = b .bit; err = err; slo = slo; fast = fast }
+
 -- what a call with these lines answers: the changed board if none of them holds, else the board as it was and the number
 abbrev pub granted : List Line → Board → Board → Answer
 granted ls b changed = record { board = pick (eqb (given ls) 0) changed b; number = given ls }

@@ -1,7 +1,6 @@
 -- All calls that take a board (`is_lawful` tells and changes nothing): the board afterwards, the number and the values given back, the table of each, and, in this one
 -- place, the fields that each may touch.
 use Prim.Native.Nat.{ℕ}
-use mathlib.Core.Path.{_≡_}
 use mathlib.Core.Bool.{Bool, true, false, _||_}
 use mathlib.Core.List.{List, [], _∷_}
 use lib.Dec.{eqb}
@@ -39,11 +38,12 @@ number (Call.run n) b = Stepping.run b n .number
 number Call.read b = Register.readRegister b .number
 number Call.take b = Interrupts.takeInterrupt b .number
 
--- the values given back beside board and number: what the register shows, and the vector of an interrupt that was taken
+-- the answer of a taking as values: the vector, or none
 abbrev pub vectors : Interrupt → List ℕ
 vectors (Interrupt.Vector v) = v ∷ []
 vectors Interrupt.NoneWaits = []
 
+-- the values given back beside board and number
 abbrev pub values : Call → Board → List ℕ
 values (Call.setSwitches rc1 base) b = []
 values (Call.step pulse) b = []

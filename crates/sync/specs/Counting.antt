@@ -14,13 +14,13 @@ least test zero = 0
 least test (suc bound) = pick (test 0) 0 (suc (least (λ (m : ℕ). test (suc m)) bound))
 
 -- the k-th count falls on the first microsecond at or after k seconds over the frequency f: the least m with m × f ≥ k × 1,000,000
-unfoldable pub countAt : ℕ → ℕ → ℕ
-countAt f k = least (λ (m : ℕ). leb (k * 1000000) (m * f)) (k * 1000000)
+unfoldable pub fallsOn : ℕ → ℕ → ℕ
+fallsOn f k = least (λ (m : ℕ). leb (k * 1000000) (m * f)) (k * 1000000)
 
 -- how many of the first n counts have come by the microsecond m
 unfoldable pub come : ℕ → ℕ → ℕ → ℕ
 come f zero m = 0
-come f (suc n) m = pick (leb (countAt f (suc n)) m) (suc (come f n m)) (come f n m)
+come f (suc n) m = pick (leb (fallsOn f (suc n)) m) (suc (come f n m)) (come f n m)
 
 -- the count: it holds at frequency less one until the next pulse
 unfoldable pub count : ℕ → ℕ → ℕ
@@ -29,7 +29,7 @@ count f m = come f (f - 1) m
 -- one of the first n counts falls on the microsecond m
 unfoldable pub fallsAmong : ℕ → ℕ → ℕ → Bool
 fallsAmong f zero m = false
-fallsAmong f (suc n) m = eqb (countAt f (suc n)) m || fallsAmong f n m
+fallsAmong f (suc n) m = eqb (fallsOn f (suc n)) m || fallsAmong f n m
 
 -- a count step
 unfoldable pub countFalls : ℕ → ℕ → Bool

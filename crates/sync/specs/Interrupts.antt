@@ -1,5 +1,5 @@
 -- The three interrupts: vectors are base plus 2, 1, 0 for ERR, SLO, FAST, in that priority, taken one by one.
-use Prim.Native.Nat.{ℕ, _+_}
+use Prim.Native.Nat.{_+_}
 use mathlib.Core.Bool.{false, not}
 use mathlib.Core.List.{List, [], _∷_}
 use lib.Dec.{eqb}
@@ -9,18 +9,19 @@ use Rattle.sync.specs.declared.board.Board.{Board}
 use Rattle.sync.specs.declared.interrupts.Interrupt.{Interrupt}
 use Rattle.sync.specs.declared.interrupts.Interrupt.the-variants as Interrupt
 use Rattle.sync.specs.declared.interrupts.Taken.{Taken}
+use Rattle.sync.specs.Boards.{withWaiting}
 use Rattle.sync.specs.Lawful.{lawful}
 
 -- a board with one flag taken
 
 abbrev pub errTaken : Board → Board
-errTaken b = record { rc1 = b .rc1; base = b .base; seen = b .seen; elapsed = b .elapsed; bit = b .bit; err = false; slo = b .slo; fast = b .fast }
+errTaken b = withWaiting b false (b .slo) (b .fast)
 
 abbrev pub sloTaken : Board → Board
-sloTaken b = record { rc1 = b .rc1; base = b .base; seen = b .seen; elapsed = b .elapsed; bit = b .bit; err = b .err; slo = false; fast = b .fast }
+sloTaken b = withWaiting b (b .err) false (b .fast)
 
 abbrev pub fastTaken : Board → Board
-fastTaken b = record { rc1 = b .rc1; base = b .base; seen = b .seen; elapsed = b .elapsed; bit = b .bit; err = b .err; slo = b .slo; fast = false }
+fastTaken b = withWaiting b (b .err) (b .slo) false
 
 -- the next one's vector; with none waiting the answer says so
 unfoldable pub next : Board → Interrupt
@@ -34,10 +35,10 @@ next b =
 unfoldable pub nextTaken : Board → Board
 nextTaken b = pick (b .err) (errTaken b) (pick (b .slo) (sloTaken b) (pick (b .fast) (fastTaken b) b))
 
--- beside a refusal none is given
 abbrev pub takeLines : Board → List Line
 takeLines b = 18 if not (lawful b) ∷ []
 
+-- beside a refusal none is given
 abbrev pub takeInterrupt : Board → Taken
 takeInterrupt b =
     record {

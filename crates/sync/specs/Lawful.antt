@@ -1,7 +1,6 @@
 -- 18: a board that no calls of ours could have left. Which calls leave each of the others, `way` of Runs.antt says; law `lawful-exactly-if` of proofs/Reached.antt.
-use Prim.Native.Nat.{ℕ}
 use mathlib.Core.Bool.{Bool, _&&_, _||_, not}
-use lib.Dec.{leb, ltb, eqb}
+use lib.Dec.{ltb, eqb}
 use Rattle.wire.specs.Digits.{pick}
 use Rattle.sync.specs.declared.board.Board.{Board}
 use Rattle.sync.specs.Boards.{switchesFit}

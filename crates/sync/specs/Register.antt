@@ -14,9 +14,9 @@ use Rattle.sync.specs.Lawful.{lawful}
 unfoldable pub shown : Board → ℕ
 shown b = pick (b .bit) 0x8000 0 + count (frequency (b .rc1)) (b .elapsed)
 
--- the value is 0 beside a refusal
 abbrev pub readLines : Board → List Line
 readLines b = 18 if not (lawful b) ∷ []
 
+-- the value is 0 beside a refusal
 abbrev pub readRegister : Board → Reading
 readRegister b = record { value = pick (eqb (given (readLines b)) 0) (shown b) 0; number = given (readLines b) }

@@ -1,4 +1,4 @@
--- Chains of calls: those that leave a board, those after a pulse, and those before the first.
+-- Chains of calls: those that leave a board, those after a pulse, those before the first, and takings.
 use Prim.Native.Nat.{ℕ, _+_}
 use mathlib.Core.Path.{_≡_}
 use mathlib.Core.Bool.{Bool, true, false, _&&_, _||_, not}
@@ -7,8 +7,9 @@ use lib.Dec.{leb, ltb, eqb}
 use lib.ListN.{replicate}
 use Rattle.wire.specs.Digits.{pick}
 use Rattle.sync.specs.declared.board.Board.{Board}
+use Rattle.sync.specs.declared.interrupts.Interrupt.{Interrupt}
 use Rattle.sync.specs.declared.interrupts.Interrupt.the-variants as Interrupt
-use Rattle.sync.specs.Boards.{freshBoard}
+use Rattle.sync.specs.Boards.{switchesFit, freshBoard}
 use Rattle.sync.specs.Counting.{frequency, count, countFalls}
 use Rattle.sync.specs.Stepping.{inTime}
 use Rattle.sync.specs.Register.{readRegister}
@@ -17,7 +18,7 @@ use Rattle.sync.specs.Calls.{Call, after, afterAll}
 
 -- THE CALLS THAT LEAVE A BOARD, FROM A FRESH ONE
 
--- some calls leave it
+-- some calls leave it; those that `way` names have arguments that their types can hold
 pub record Left (b : Board) : Type 0 where
   pub calls : List Call
   pub leave : afterAll calls freshBoard ≡ b
@@ -47,17 +48,17 @@ way b = Call.setSwitches (b .rc1) (b .base) ∷ pick (b .seen) (pick (ltb (b .el
 
 -- AFTER A PULSE
 
--- a call that brings no pulse and does not start the board anew: quiet steps, readings and takings
-abbrev pub quiet : Call → Bool
-quiet (Call.setSwitches rc1 base) = false
-quiet (Call.step pulse) = not pulse
-quiet (Call.run n) = true
-quiet Call.read = true
-quiet Call.take = true
+-- a call that brings no pulse and does not start the board anew: quiet steps, readings, takings, and a setting of the switches that is refused
+abbrev pub quietCall : Call → Bool
+quietCall (Call.setSwitches rc1 base) = not (switchesFit rc1 base)
+quietCall (Call.step pulse) = not pulse
+quietCall (Call.run n) = true
+quietCall Call.read = true
+quietCall Call.take = true
 
-abbrev pub allQuiet : List Call → Bool
-allQuiet [] = true
-allQuiet (k ∷ ks) = quiet k && allQuiet ks
+abbrev pub quietCalls : List Call → Bool
+quietCalls [] = true
+quietCalls (k ∷ ks) = quietCall k && quietCalls ks
 
 -- the microseconds that pass in it
 abbrev pub lasts : Call → ℕ
@@ -67,9 +68,9 @@ lasts (Call.run n) = n
 lasts Call.read = 0
 lasts Call.take = 0
 
-abbrev pub lastAll : List Call → ℕ
-lastAll [] = 0
-lastAll (k ∷ ks) = lasts k + lastAll ks
+abbrev pub lastsAll : List Call → ℕ
+lastsAll [] = 0
+lastsAll (k ∷ ks) = lasts k + lastsAll ks
 
 -- a board d, the microsecond j after a pulse that came to b: the register is what the page says
 pub record Since (b : Board) (j : ℕ) (d : Board) : Type 0 where
@@ -78,9 +79,14 @@ pub record Since (b : Board) (j : ℕ) (d : Board) : Type 0 where
   pub quiet-err : after (Call.step false) d .err ≡ (d .err || eqb (j + 1) 1008001)
   pub quiet-slo : after (Call.step false) d .slo ≡ d .slo
   pub quiet-fast : after (Call.step false) d .fast ≡ (d .fast || countFalls (frequency (b .rc1)) (j + 1))
-  -- with a pulse it raises ERR if that is early, or if none came by 1,008,000; and the bit is cleared exactly by one in time
+  -- with a pulse it raises ERR if that is early, or on the 1,008,001st; and the bit is clear afterwards exactly if the pulse is in time
   pub pulse-err : after (Call.step true) d .err ≡ (d .err || (ltb (j + 1) 992000 || eqb (j + 1) 1008001))
+  pub in-time : inTime d ≡ (leb 992000 (j + 1) && leb (j + 1) 1008000)
   pub pulse-bit : after (Call.step true) d .bit ≡ not (leb 992000 (j + 1) && leb (j + 1) 1008000)
+
+-- what a pulse leaves of a board: its switches, SLO and FAST waiting, and a new gap
+abbrev pub pulsedBoard : Board → Bool → Bool → Board
+pulsedBoard b bit err = record { rc1 = b .rc1; base = b .base; seen = true; elapsed = 0; bit = bit; err = err; slo = true; fast = true }
 
 -- BEFORE THE FIRST PULSE
 
@@ -100,3 +106,9 @@ pulseless (k ∷ ks) = not (pulse k) && pulseless ks
 pub record Before (d : Board) : Type 0 where
   pub shows : readRegister d .value ≡ 0x8000
   pub waits : takeInterrupt d .interrupt ≡ Interrupt.NoneWaits
+
+-- A TAKING
+
+-- what it gives, and the board that it leaves
+abbrev pub Gives : Board → Interrupt → Board → Type 0
+Gives b i d = (takeInterrupt b .interrupt ≡ i) × (after Call.take b ≡ d)

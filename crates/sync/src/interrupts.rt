@@ -20,6 +20,7 @@ pub struct Taken {
     pub number: u8,
 }
 
+// The first that waits of ERR, SLO and FAST.
 fn take(board: Board) -> Taken
     requires { ⌜ lawful board ≡ true ⌝ }
     ensures { λ r. ⌜ r ≡ taken (nextTaken board) (next board) ⌝ }

@@ -12,19 +12,19 @@ fn unseen_fits(b: Board) -> bool
     (b.elapsed == 0) & (b.bit & !(b.err | (b.slo | b.fast)))
 }
 
-// After it: what is taken later waits too; and the bit is set once a pulse is missing.
+// After it: SLO waits only with FAST; ERR waits only with SLO until a pulse is missing, and from then on the bit is set.
 fn seen_fits(b: Board) -> bool
     ensures { λ r. ⌜ r ≡ seenLawful b ⌝ }
 {
-    let waits = if b.elapsed < LATE {
+    let rest = if b.elapsed < LATE {
         !b.err | b.slo
     } else {
         (b.elapsed == LATE) & b.bit
     };
-    (!b.slo | b.fast) & waits
+    (!b.slo | b.fast) & rest
 }
 
-// Whether any call takes this board. Asked first in each of them.
+// Whether some calls leave this board. Asked first in each call.
 pub fn is_lawful(board: Board) -> bool
     ensures { λ r. ⌜ r ≡ lawful board ⌝ }
 {

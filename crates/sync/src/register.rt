@@ -25,9 +25,9 @@ pub fn read_register(board: Board) -> Reading
         };
     }
     let count = count_at(board.rc1, board.elapsed) as u16;
-    let err = if board.bit { ERR_BIT } else { 0 };
+    let bit = if board.bit { ERR_BIT } else { 0 };
     Reading {
-        value: err + count,
+        value: bit + count,
         number: numbers::DONE,
     }
 }

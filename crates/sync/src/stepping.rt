@@ -13,7 +13,7 @@ ghost use Rattle.sync.specs.Counting.{frequency, count};
 ghost use Rattle.sync.specs.Stepping.{held, stepped, quietSteps, step, run};
 ghost use Rattle.sync.specs.Lawful.{lawful};
 
-// A pulse is in time from the one to the other, in microseconds after the one before.
+// A pulse is in time from EARLIEST to LATEST, in microseconds after the one before.
 const EARLIEST: u32 = 992_000;
 
 const LATEST: u32 = 1_008_000;
@@ -21,7 +21,7 @@ const LATEST: u32 = 1_008_000;
 // The microsecond on which a missing pulse is an error. Nothing later is told apart from it.
 pub(crate) const LATE: u32 = 1_008_001;
 
-// The microseconds since the last pulse, so many later.
+// The microseconds since the last pulse, so many later, held at 1,008,001.
 fn held_after(elapsed: u32, n: u64) -> u32
     requires { ⌜ elapsed ≤ 1008001 ⌝ }
     ensures { λ r. ⌜ r ≡ held (elapsed + n) ⌝ }
@@ -47,7 +47,7 @@ fn fast_at(board: Board, to: u32) -> bool
 }
 
 // The board after so many quiet microseconds, however many.
-fn quiet(board: Board, n: u64) -> Board
+fn quiet_steps(board: Board, n: u64) -> Board
     requires { ⌜ lawful board ≡ true ⌝ }
     ensures { λ r. ⌜ r ≡ quietSteps n board ⌝ }
 {
@@ -72,12 +72,12 @@ fn pulsed(board: Board) -> Board
 {
     let at = board.elapsed + 1;
     let in_time = !board.seen | ((EARLIEST <= at) & (at <= LATEST));
-    let wrong = board.seen & ((at < EARLIEST) | (at == LATE));
+    let error = board.seen & ((at < EARLIEST) | (at == LATE));
     let mut b = board;
     b.seen = true;
     b.elapsed = 0;
-    b.bit = !in_time & (board.bit | wrong);
-    b.err = board.err | wrong;
+    b.bit = !in_time & (board.bit | error);
+    b.err = board.err | error;
     b.slo = true;
     b.fast = true;
     b
@@ -100,7 +100,7 @@ pub fn step(board: Board, pulse: bool) -> Answer
         };
     }
     Answer {
-        board: quiet(board, 1),
+        board: quiet_steps(board, 1),
         number: numbers::DONE,
     }
 }
@@ -116,7 +116,7 @@ pub fn run(board: Board, n: u64) -> Answer
         };
     }
     Answer {
-        board: quiet(board, n),
+        board: quiet_steps(board, n),
         number: numbers::DONE,
     }
 }

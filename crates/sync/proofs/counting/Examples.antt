@@ -3,20 +3,21 @@
 use Prim.Native.Nat.{ℕ, _*_, _-_, _≤_, _<_}
 use mathlib.Core.Path.{_≡_, refl}
 use mathlib.Core.Bool.{true, _&&_}
+use mathlib.Core.List.{[], _∷_}
 use mathlib.Core.Logic.{⊎-elim}
 use native.Mathlib.Nat.{mul-le-mul}
 use native.Mathlib.Omega.{arith}
 use lib.Dec.{leb, ltb, lit<}
 use borrow.Author.Tests.{leb-true, ltb-true}
 use Rattle.wire.proofs.digits.Laws.{and-both, lt-or-le}
-use Rattle.sync.specs.Counting.{countAt}
+use Rattle.sync.specs.Counting.{fallsOn}
 use Rattle.sync.proofs.counting.Laws.{count-reached, count-first}
 
 -- the first microsecond at or after k seconds over f is one that is, while the one before is not
-pub count-is : (f k m : ℕ) → 0 < f → (leb (k * 1000000) (m * f) && ltb ((m - 1) * f) (k * 1000000)) ≡ true → countAt f k ≡ m
+pub count-is : (f k m : ℕ) → 0 < f → (leb (k * 1000000) (m * f) && ltb ((m - 1) * f) (k * 1000000)) ≡ true → fallsOn f k ≡ m
 count-is f k m p h =
     let q = and-both (leb (k * 1000000) (m * f)) (ltb ((m - 1) * f) (k * 1000000)) h in
-    let n = countAt f k in
+    let n = fallsOn f k in
     let a : n ≤ m = count-first f p k m (leb-true (k * 1000000) (m * f) (q .0)) in
     let b : (m - 1) * f < k * 1000000 = ltb-true ((m - 1) * f) (k * 1000000) (q .1) in
     ⊎-elim
@@ -24,26 +25,18 @@ count-is f k m p h =
     (λ (g : m ≤ n). omega arith)
     (lt-or-le n m)
 
-pub first-of-32 : countAt 32 1 ≡ 31250
-first-of-32 = count-is 32 1 31250 (lit< tt) refl
-
-pub first-of-64 : countAt 64 1 ≡ 15625
-first-of-64 = count-is 64 1 15625 (lit< tt) refl
-
-pub first-of-128 : countAt 128 1 ≡ 7813
-first-of-128 = count-is 128 1 7813 (lit< tt) refl
-
-pub first-of-256 : countAt 256 1 ≡ 3907
-first-of-256 = count-is 256 1 3907 (lit< tt) refl
-
-pub second-of-256 : countAt 256 2 ≡ 7813
-second-of-256 = count-is 256 2 7813 (lit< tt) refl
-
-pub third-of-256 : countAt 256 3 ≡ 11719
-third-of-256 = count-is 256 3 11719 (lit< tt) refl
-
-pub fourth-of-256 : countAt 256 4 ≡ 15625
-fourth-of-256 = count-is 256 4 15625 (lit< tt) refl
-
-pub last-of-256 : countAt 256 255 ≡ 996094
-last-of-256 = count-is 256 255 996094 (lit< tt) refl
+-- the first counts of each frequency, three more of 256 Hz, and its last
+pub computed :
+    fallsOn 32 1 ∷ fallsOn 64 1 ∷ fallsOn 128 1 ∷ fallsOn 256 1 ∷ fallsOn 256 2 ∷ fallsOn 256 3 ∷ fallsOn 256 4 ∷ fallsOn 256 255 ∷ []
+    ≡ 31250 ∷ 15625 ∷ 7813 ∷ 3907 ∷ 7813 ∷ 11719 ∷ 15625 ∷ 996094 ∷ []
+computed =
+    rw (
+      count-is 32 1 31250 (lit< tt) refl,
+      count-is 64 1 15625 (lit< tt) refl,
+      count-is 128 1 7813 (lit< tt) refl,
+      count-is 256 1 3907 (lit< tt) refl,
+      count-is 256 2 7813 (lit< tt) refl,
+      count-is 256 3 11719 (lit< tt) refl,
+      count-is 256 4 15625 (lit< tt) refl,
+      count-is 256 255 996094 (lit< tt) refl,
+    ) refl

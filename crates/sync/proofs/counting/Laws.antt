@@ -1,16 +1,16 @@
 -- The k-th count falls on the least microsecond m with m × f ≥ k × 1,000,000, so it has come by m exactly if that holds of m. How many have come is therefore a
 -- quotient, held at frequency less one, and a count falls on a microsecond exactly if the count rises there. One law over the frequency. Assumes nothing.
 use Prim.Native.Nat.{ℕ, zero, suc, _+_, _*_, _-_, _/_, _≤_, _<_}
-use mathlib.Core.Path.{_≡_, refl, sym, ap, ap₂, _∙_}
-use mathlib.Core.Bool.{Bool, true, false, _||_, _&&_, not}
+use mathlib.Core.Path.{_≡_, refl, sym, ap₂, _∙_}
+use mathlib.Core.Bool.{Bool, true, false, _||_, _&&_}
 use mathlib.Core.Logic.{⊎-elim}
 use native.Mathlib.Nat.{mul-le-mul, zero-mul}
 use native.Mathlib.Omega.{arith}
 use lib.Dec.{leb, ltb, eqb}
-use borrow.Author.Tests.{le-leb, lt-leb, leb-true, leb-false, lt-ltb, le-ltb, eq-eqb, ne-eqb}
+use borrow.Author.Tests.{le-leb, lt-leb, leb-true, lt-ltb, le-ltb, eq-eqb, ne-eqb}
 use Rattle.wire.specs.Digits.{pick}
 use Rattle.wire.proofs.digits.Laws.{lt-or-le, clash}
-use Rattle.sync.specs.Counting.{frequency, least, countAt, come, count, fallsAmong, countFalls}
+use Rattle.sync.specs.Counting.{frequency, least, fallsOn, come, count, fallsAmong, countFalls}
 
 -- THE LEAST
 
@@ -39,28 +39,28 @@ least-first test (suc bound) m h =
 
 module _ (f : ℕ) (above : 0 < f) where
   -- the k-th count falls at or after k seconds over the frequency
-  pub count-reached : (k : ℕ) → k * 1000000 ≤ countAt f k * f
-  unfolding countAt
+  pub count-reached : (k : ℕ) → k * 1000000 ≤ fallsOn f k * f
+  unfolding fallsOn
   count-reached k =
       leb-true (k * 1000000) _ (least-passes (λ (m : ℕ). leb (k * 1000000) (m * f)) (k * 1000000)
       (le-leb (k * 1000000) (k * 1000000 * f) (let l : k * 1000000 * 1 ≤ k * 1000000 * f = mul-le-mul {n₁ = k * 1000000} {m₁ = 1} {n₂ = k * 1000000} {m₂ = f} (omega arith) above in omega arith)))
 
   -- and on no later microsecond than any that is
-  pub count-first : (k m : ℕ) → k * 1000000 ≤ m * f → countAt f k ≤ m
-  unfolding countAt
+  pub count-first : (k m : ℕ) → k * 1000000 ≤ m * f → fallsOn f k ≤ m
+  unfolding fallsOn
   count-first k m h = least-first (λ (j : ℕ). leb (k * 1000000) (j * f)) (k * 1000000) m (le-leb _ _ h)
 
   -- so it has come by a microsecond exactly if that is at or after k seconds over the frequency
-  pub has-come : (k m : ℕ) → leb (countAt f k) m ≡ leb (k * 1000000) (m * f)
+  pub has-come : (k m : ℕ) → leb (fallsOn f k) m ≡ leb (k * 1000000) (m * f)
   has-come k m = ⊎-elim late early (lt-or-le (m * f) (k * 1000000))
     where
-      late : m * f < k * 1000000 → leb (countAt f k) m ≡ leb (k * 1000000) (m * f)
+      late : m * f < k * 1000000 → leb (fallsOn f k) m ≡ leb (k * 1000000) (m * f)
       late l =
-          lt-leb (countAt f k) m (⊎-elim (λ p. p) (λ q. absurd (let s : countAt f k * f ≤ m * f = mul-le-mul {n₁ = countAt f k} {m₁ = f} {n₂ = m} {m₂ = f} q (omega arith) in omega (arith, count-reached k))) (lt-or-le m (countAt f k)))
+          lt-leb (fallsOn f k) m (⊎-elim (λ p. p) (λ q. absurd (let s : fallsOn f k * f ≤ m * f = mul-le-mul {n₁ = fallsOn f k} {m₁ = f} {n₂ = m} {m₂ = f} q (omega arith) in omega (arith, count-reached k))) (lt-or-le m (fallsOn f k)))
           ∙ sym (lt-leb (k * 1000000) (m * f) l)
 
-      early : k * 1000000 ≤ m * f → leb (countAt f k) m ≡ leb (k * 1000000) (m * f)
-      early l = le-leb (countAt f k) m (count-first k m l) ∙ sym (le-leb (k * 1000000) (m * f) l)
+      early : k * 1000000 ≤ m * f → leb (fallsOn f k) m ≡ leb (k * 1000000) (m * f)
+      early l = le-leb (fallsOn f k) m (count-first k m l) ∙ sym (le-leb (k * 1000000) (m * f) l)
 
   -- of the first n counts all have come, or as many as the quotient says
   come-all : (n m : ℕ) → n ≤ m * f / 1000000 → come f n m ≡ n
@@ -145,7 +145,7 @@ come-step c m d a b h =
 come-more : (f n m d : ℕ) → come f n m ≤ come f n (m + d)
 unfolding come
 come-more f zero m d = omega arith
-come-more f (suc n) m d = come-step (countAt f (suc n)) m d (come f n m) (come f n (m + d)) (come-more f n m d)
+come-more f (suc n) m d = come-step (fallsOn f (suc n)) m d (come f n m) (come f n (m + d)) (come-more f n m d)
 
 pub count-more : (f m d : ℕ) → count f m ≤ count f (m + d)
 unfolding count
@@ -172,7 +172,7 @@ falls-step c m a b r h e =
 falls-rises : (f n m : ℕ) → fallsAmong f n (m + 1) ≡ ltb (come f n m) (come f n (m + 1))
 unfolding fallsAmong come
 falls-rises f zero m = refl
-falls-rises f (suc n) m = falls-step (countAt f (suc n)) m (come f n m) (come f n (m + 1)) (fallsAmong f n (m + 1)) (come-more f n m 1) (falls-rises f n m)
+falls-rises f (suc n) m = falls-step (fallsOn f (suc n)) m (come f n m) (come f n (m + 1)) (fallsAmong f n (m + 1)) (come-more f n m 1) (falls-rises f n m)
 
 pub count-rises : (f m : ℕ) → countFalls f (m + 1) ≡ ltb (count f m) (count f (m + 1))
 unfolding countFalls count

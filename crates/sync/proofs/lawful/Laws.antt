@@ -1,11 +1,10 @@
 -- Of a lawful board. Assumes nothing.
 use Prim.Native.Nat.{ℕ, _+_, _%_, _≤_, _<_}
-use mathlib.Core.Path.{_≡_, refl, sym, ap, _∙_}
+use mathlib.Core.Path.{_≡_, refl}
 use mathlib.Core.Bool.{Bool, true, false, _||_, _&&_, not}
 use native.Mathlib.Omega.{arith}
 use lib.Dec.{leb, ltb, eqb}
 use borrow.Author.Tests.{not-true, leb-true, ltb-true, eqb-true, lt-ltb, le-ltb, eq-eqb}
-use Rattle.wire.specs.Digits.{pick}
 use Rattle.wire.proofs.digits.Laws.{and-left, and-right, and-both, or-left, or-right}
 use Rattle.sync.specs.declared.board.Board.{Board}
 use Rattle.sync.specs.Boards.{switchesFit}

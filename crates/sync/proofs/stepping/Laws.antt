@@ -5,13 +5,13 @@ use mathlib.Core.Bool.{Bool, true, false, _||_, _&&_, not, or-false}
 use mathlib.Core.Logic.{⊎-elim}
 use native.Mathlib.Omega.{arith}
 use lib.Dec.{leb, ltb, eqb}
-use borrow.Author.Tests.{le-leb, lt-leb, leb-true, lt-ltb, le-ltb, ltb-true, eq-eqb, ne-eqb, eqb-true}
+use borrow.Author.Tests.{le-leb, lt-leb, lt-ltb, le-ltb, eq-eqb, ne-eqb}
 use Rattle.wire.specs.Digits.{pick}
 use Rattle.wire.proofs.digits.Laws.{lt-or-le, or-assoc}
 use Rattle.sync.specs.declared.board.Board.{Board}
 use Rattle.sync.specs.Counting.{frequency, count, countFalls}
-use Rattle.sync.specs.Lawful.{unseenLawful, seenLawful, lawful}
-use Rattle.sync.specs.Stepping.{held, reached, inTime, errs, counts, stepped, quietSteps}
+use Rattle.sync.specs.Lawful.{lawful}
+use Rattle.sync.specs.Stepping.{held, errs, counts, stepped, quietSteps}
 use Rattle.sync.proofs.lawful.Laws.{elapsed-within}
 use Rattle.sync.proofs.counting.Laws.{count-more, count-late, count-rises, frequency-above}
 
@@ -84,13 +84,13 @@ held-late m =
     (λ g. rw (held-above m g, eq-eqb 1008001 1008001 refl) (sym (le-leb 1008001 m g)))
     (lt-or-le m 1008001)
 
--- one more microsecond
-held-next : (m : ℕ) → held (held m + 1) ≡ held (m + 1)
-held-next m =
-    ⊎-elim
-    (λ l. ap (λ (x : ℕ). held (x + 1)) (held-below m l))
-    (λ g. ap (λ (x : ℕ). held (x + 1)) (held-above m g) ∙ held-above 1008002 (omega arith) ∙ sym (held-above (m + 1) (omega arith)))
-    (lt-or-le m 1008001)
+-- what goes above 1,008,001 as it goes there does not tell them from held ones
+pub as-held : {A : Type 0} (g : ℕ → A) (m : ℕ) → (1008001 ≤ m → g 1008001 ≡ g m) → g (held m) ≡ g m
+as-held g m f = ⊎-elim (λ l. ap g (held-below m l)) (λ h. ap g (held-above m h) ∙ f h) (lt-or-le m 1008001)
+
+-- so many more microseconds
+pub held-plus : (j n : ℕ) → held (held j + n) ≡ held (j + n)
+held-plus j n = as-held (λ (x : ℕ). held (x + n)) j (λ g. held-above (1008001 + n) (omega arith) ∙ sym (held-above (j + n) (omega arith)))
 
 -- a pulse is missed once
 missed-next : (e m : ℕ) → e ≤ m → ((ltb e 1008001 && leb 1008001 m) || eqb (held m + 1) 1008001) ≡ (ltb e 1008001 && leb 1008001 (m + 1))
@@ -113,12 +113,8 @@ falls-late f m p h =
     ∙ ap₂ ltb (count-late f p m h) (count-late f p (m + 1) (omega arith))
     ∙ le-ltb (f - 1) (f - 1) (omega arith)
 
-falls-held : (f m : ℕ) → 0 < f → countFalls f (held m + 1) ≡ countFalls f (m + 1)
-falls-held f m p =
-    ⊎-elim
-    (λ l. ap (λ (x : ℕ). countFalls f (x + 1)) (held-below m l))
-    (λ g. ap (λ (x : ℕ). countFalls f (x + 1)) (held-above m g) ∙ falls-late f 1008001 p (omega arith) ∙ sym (falls-late f m p (omega arith)))
-    (lt-or-le m 1008001)
+pub falls-held : (f m : ℕ) → 0 < f → countFalls f (held m + 1) ≡ countFalls f (m + 1)
+falls-held f m p = as-held (λ (x : ℕ). countFalls f (x + 1)) m (λ g. falls-late f 1008001 p (omega arith) ∙ sym (falls-late f m p (omega arith)))
 
 -- the count rises by what falls
 counted-next : (f e n : ℕ) → 0 < f → (ltb (count f e) (count f (e + n)) || countFalls f (held (e + n) + 1)) ≡ ltb (count f e) (count f (e + n + 1))
@@ -127,11 +123,7 @@ counted-next f e n p =
     ∙ rises-twice (count f e) (count f (e + n)) (count f (e + n + 1)) (count-more f e n) (count-more f (e + n) 1)
 
 pub count-of-held : (f m : ℕ) → 0 < f → count f (held m) ≡ count f m
-count-of-held f m p =
-    ⊎-elim
-    (λ l. ap (count f) (held-below m l))
-    (λ g. ap (count f) (held-above m g) ∙ count-late f p 1008001 (omega arith) ∙ sym (count-late f p m (omega arith)))
-    (lt-or-le m 1008001)
+count-of-held f m p = as-held (count f) m (λ g. count-late f p 1008001 (omega arith) ∙ sym (count-late f p m (omega arith)))
 
 -- STEPS
 
@@ -151,7 +143,7 @@ module _ (b : Board) (s : b .seen ≡ true) (w : b .elapsed ≤ 1008001) where
   next n =
       let e : b .elapsed + suc n ≡ b .elapsed + n + 1 = omega arith in
       rw e
-      (simp (s, or-false, or-assoc, held-next (b .elapsed + n), missed-next (b .elapsed) (b .elapsed + n) (omega arith), counted-next (frequency (b .rc1)) (b .elapsed) n (frequency-above (b .rc1))))
+      (simp (s, or-false, or-assoc, held-plus (b .elapsed + n) 1, missed-next (b .elapsed) (b .elapsed + n) (omega arith), counted-next (frequency (b .rc1)) (b .elapsed) n (frequency-above (b .rc1))))
 
   all-passed : (n : ℕ) → quietSteps n b ≡ passed n b
   unfolding quietSteps

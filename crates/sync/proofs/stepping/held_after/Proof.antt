@@ -1,7 +1,6 @@
 -- `stepping::held_after` meets its contract: both returns.
 -- Assumes nothing.
 use mathlib.Core.Path.{sym}
-use native.Mathlib.Omega.{arith}
 use borrow.Author.Needs.{needs}
 use Rattle.sync.proofs.stepping.Laws.{held-below, held-above}
 use Rattle.sync.proofs.stepping.held_after.Statement.{statement}

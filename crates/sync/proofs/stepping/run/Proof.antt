@@ -12,11 +12,11 @@ is-lawful-requires c κs = search needs
 returns : tie.Need-returns
 returns c = simp (sym (c .before .is-lawful .ensures) ∙ not-true _ (c .if1 .taken))
 
-quiet-requires : tie.Need-quiet-requires
-quiet-requires c κs = sym (c .before .is-lawful .ensures) ∙ not-false _ (c .if1 .left)
+quiet-steps-requires : tie.Need-quiet-steps-requires
+quiet-steps-requires c κs = sym (c .before .is-lawful .ensures) ∙ not-false _ (c .if1 .left)
 
 returns-2 : tie.Need-returns-2
-returns-2 c = simp (sym (c .before .before .is-lawful .ensures) ∙ not-false _ (c .before .if1 .left), c .quiet .ensures)
+returns-2 c = simp (sym (c .before .before .is-lawful .ensures) ∙ not-false _ (c .before .if1 .left), c .quiet-steps .ensures)
 
 pub run-spec : {M : Type 1} → statement M
-run-spec = tie.close (tie.spec is-lawful-requires returns quiet-requires returns-2)
+run-spec = tie.close (tie.spec is-lawful-requires returns quiet-steps-requires returns-2)

@@ -21,14 +21,14 @@ returns-2 c =
     let p = c .before .before in
     simp (sym (p .before .is-lawful .ensures) ∙ not-false _ (p .if1 .left), c .pulsed .ensures, c .before .if2 .taken)
 
-quiet-requires : tie.Need-quiet-requires
-quiet-requires c κs = sym (c .before .before .is-lawful .ensures) ∙ not-false _ (c .before .if1 .left)
+quiet-steps-requires : tie.Need-quiet-steps-requires
+quiet-steps-requires c κs = sym (c .before .before .is-lawful .ensures) ∙ not-false _ (c .before .if1 .left)
 
 returns-3 : tie.Need-returns-3
 unfolding quietSteps
 returns-3 c =
     let p = c .before .before in
-    simp (sym (p .before .is-lawful .ensures) ∙ not-false _ (p .if1 .left), c .quiet .ensures, c .before .if2 .left)
+    simp (sym (p .before .is-lawful .ensures) ∙ not-false _ (p .if1 .left), c .quiet-steps .ensures, c .before .if2 .left)
 
 pub step-spec : {M : Type 1} → statement M
-step-spec = tie.close (tie.spec is-lawful-requires returns pulsed-requires returns-2 quiet-requires returns-3)
+step-spec = tie.close (tie.spec is-lawful-requires returns pulsed-requires returns-2 quiet-steps-requires returns-3)

@@ -1,6 +1,5 @@
 -- `switches::set_switches` meets its contract: 18, 20, or a board that starts.
 -- Assumes nothing.
-use Prim.Native.Nat.{_≤_}
 use mathlib.Core.Path.{sym, _∙_}
 use native.Mathlib.Omega.{arith}
 use borrow.Author.Tests.{not-true, not-false}

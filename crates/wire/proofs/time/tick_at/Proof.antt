@@ -2,8 +2,6 @@ use Rattle.wire.specs.Time.{tickAt}
 use borrow.Author.Needs.{needs}
 use Rattle.wire.proofs.time.tick_at.Statement.{statement}
 use Rattle.wire.proofs.time.tick_at.Tie as tie
-use Rattle.wire.proofs.time.tick_at.Reads as reads
-use Rattle.wire.proofs.time.tick_at.Lts as lts
 
 -- src/time.rt:28:20
 mul-seconds : tie.Need-mul-seconds

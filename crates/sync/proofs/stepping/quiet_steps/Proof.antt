@@ -1,4 +1,4 @@
--- `stepping::quiet` meets its contract: what n quiet steps leave, at once.
+-- `stepping::quiet_steps` meets its contract: what n quiet steps leave, at once.
 -- Assumes nothing.
 use Prim.Native.Nat.{_+_}
 use mathlib.Core.Path.{sym, _∙_}
@@ -7,8 +7,8 @@ use Rattle.sync.specs.Counting.{frequency}
 use Rattle.sync.proofs.counting.Laws.{frequency-above}
 use Rattle.sync.proofs.lawful.Laws.{elapsed-within}
 use Rattle.sync.proofs.stepping.Laws.{quiet-later, later-seen, later-unseen, held-most, held-least, held-late, count-of-held}
-use Rattle.sync.proofs.stepping.quiet.Statement.{statement}
-use Rattle.sync.proofs.stepping.quiet.Tie as tie
+use Rattle.sync.proofs.stepping.quiet_steps.Statement.{statement}
+use Rattle.sync.proofs.stepping.quiet_steps.Tie as tie
 
 returns : tie.Need-returns
 returns c =
@@ -34,5 +34,5 @@ returns-2 c =
     ∙ later-seen n b (not-false (b .seen) (q .before .if1 .left))
     ∙ simp (c .fast-at .ensures, q .held-after .ensures, held-late (b .elapsed + n), count-of-held (frequency (b .rc1)) (b .elapsed + n) (frequency-above (b .rc1))))
 
-pub quiet-spec : {M : Type 1} → statement M
-quiet-spec = tie.close (tie.spec returns held-after-requires fast-at-requires returns-2)
+pub quiet-steps-spec : {M : Type 1} → statement M
+quiet-steps-spec = tie.close (tie.spec returns held-after-requires fast-at-requires returns-2)
