@@ -1,5 +1,5 @@
 -- Every call leaves a lawful card lawful, and a fresh card is: so no chain of calls leads out. By the cases of Outcomes, part by part. Assumes nothing.
-use Prim.Native.Nat.{ℕ, _%_, _<_}
+use Prim.Native.Nat.{ℕ, _%_}
 use mathlib.Core.Path.{_≡_, refl, sym, ap, _∙_}
 use mathlib.Core.Bool.{Bool, true, false}
 use mathlib.Core.List.{List, [], _∷_}

@@ -1,6 +1,6 @@
 -- Pending bits and the interrupt line, of the calls: an occurrence raises its own bit and no other, INTSTAT clears exactly the bits of the value, bit 4 is never
 -- raised, and the line is up exactly if LEVEL is not 0 and some bit is set in both. Assumes nothing.
-use Prim.Native.Nat.{ℕ, _-_, _^_, _<_}
+use Prim.Native.Nat.{ℕ, _^_, _<_}
 use mathlib.Core.Path.{_≡_, refl, sym, _∙_, ap}
 use mathlib.Core.Bool.{Bool, true, false, _&&_, _||_, not, or-false}
 use mathlib.Core.List.{List}

@@ -1,6 +1,6 @@
 -- The starred waits of the page, of every card such as the page's, and the page's own, which calls set. The records are computed in the clock's
 -- `waiting/Examples`. Assumes nothing.
-use Prim.Native.Nat.{ℕ, pred, _+_, _/_, _%_, _≤_, _<_}
+use Prim.Native.Nat.{ℕ, pred, _+_, _/_, _%_, _≤_}
 use mathlib.Core.Path.{_≡_, refl, sym, ap, _∙_}
 use mathlib.Core.Bool.{true, false}
 use mathlib.Core.List.{List, [], _∷_}

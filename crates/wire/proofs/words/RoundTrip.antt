@@ -1,7 +1,7 @@
 -- Time words, there and back. Words that were written are read as the same day and tick; words that are read are those that are written
 -- for what was read. So no two times of a year share words, and nothing that reads has a second meaning. By the laws of digits.
 -- Assumes nothing.
-use Prim.Native.Nat.{ℕ, _+_, _*_, _/_, _%_, _≤_, _<_}
+use Prim.Native.Nat.{ℕ, _*_, _/_, _%_, _≤_, _<_}
 use mathlib.Core.Path.{_≡_, refl, sym, _∙_, ap}
 use mathlib.Core.Bool.{Bool, true, false, _&&_, not}
 use mathlib.Core.List.{List, [], _∷_, _++_}
