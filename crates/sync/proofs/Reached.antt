@@ -14,15 +14,16 @@ use Rattle.sync.specs.declared.board.Board.{Board}
 use Rattle.sync.specs.Boards.{switchesFit, started, freshBoard}
 use Rattle.sync.specs.Counting.{frequency, count}
 use Rattle.sync.specs.Lawful.{lawful}
-use Rattle.sync.specs.Stepping.{held, inTime, errs, stepped}
-use Rattle.sync.specs.Interrupts.{nextTaken}
+use Rattle.sync.specs.Stepping.{held, inTime, errs}
 use Rattle.sync.specs.Calls.{Call, after, afterAll}
 use Rattle.sync.specs.Runs.{Left, downTo, pulsesTo, wayWithin, wayLate, way}
 use Rattle.sync.proofs.counting.Laws.{count-rises, frequency-above}
 use Rattle.sync.proofs.lawful.Laws.{switches-fit, seen-fits, still, slo-with-fast, err-with-slo, seen-late, within-lawful, late-lawful, seen-lawful}
 use Rattle.sync.proofs.stepping.Laws.{later, held-below, falls-late}
 use Rattle.sync.proofs.Keeps.{fresh-lawful, keeps-all, started-lawful}
-use Rattle.sync.proofs.Done.{set-done, step-done, run-done, take-done}
+use Rattle.sync.proofs.Done.{set-done, run-done}
+use Rattle.sync.proofs.Takings.{takes-err, takes-slo, takes-fast}
+use Rattle.sync.proofs.Runs.{pulsed-is, first-pulse}
 
 -- one behind the other
 both : (ks ls : List Call) (b : Board) → afterAll (ks ++ ls) b ≡ afterAll ls (afterAll ks b)
@@ -40,12 +41,11 @@ module _ (rc1 base : ℕ) (fit : switchesFit rc1 base ≡ true) where
   -- PULSES
 
   first : after (Call.step true) (started rc1 base) ≡ Seen 0 false false true true
-  unfolding stepped inTime errs
-  first = step-done (started rc1 base) (started-lawful rc1 base fit) true
+  first = first-pulse (started rc1 base) (started-lawful rc1 base fit) refl
 
   early : after (Call.step true) (Seen 0 false false true true) ≡ Seen 0 true true true true
-  unfolding stepped inTime errs
-  early = step-done _ (seen-ok 0 false false true true (lit< tt) refl refl) true
+  unfolding inTime errs
+  early = pulsed-is _ (seen-ok 0 false false true true (lit< tt) refl refl)
 
   -- microseconds, with all three waiting
   passes : (e : ℕ) (bit : Bool) → e < 1008001 → after (Call.run e) (Seen 0 bit true true true) ≡ Seen e bit true true true
@@ -54,8 +54,8 @@ module _ (rc1 base : ℕ) (fit : switchesFit rc1 base ≡ true) where
       ∙ ap₂ (λ (x : ℕ) (t : Bool). Seen x t true true true) (held-below (0 + e) (omega arith) ∙ omega arith) (ap (λ (t : Bool). bit || t) (lt-leb 1008001 (0 + e) (omega arith)) ∙ or-false bit)
 
   in-time : after (Call.step true) (Seen 991999 true true true true) ≡ Seen 0 false true true true
-  unfolding stepped inTime errs
-  in-time = step-done _ (seen-ok 991999 true true true true (lit< tt) refl refl) true
+  unfolding inTime errs
+  in-time = pulsed-is _ (seen-ok 991999 true true true true (lit< tt) refl refl)
 
   set-bit : afterAll (pulsesTo true) (started rc1 base) ≡ Seen 0 true true true true
   set-bit = ap (after (Call.step true)) first ∙ early
@@ -70,17 +70,14 @@ module _ (rc1 base : ℕ) (fit : switchesFit rc1 base ≡ true) where
   -- TAKINGS
 
   err-taken : (e : ℕ) (bit slo fast : Bool) → lawful (Seen e bit true slo fast) ≡ true → after Call.take (Seen e bit true slo fast) ≡ Seen e bit false slo fast
-  unfolding nextTaken
-  err-taken e bit slo fast h = take-done _ h
+  err-taken e bit slo fast h = takes-err _ h refl .1
 
   module _ (e : ℕ) (bit : Bool) (l : e < 1008001) where
     slo-taken : after Call.take (Seen e bit false true true) ≡ Seen e bit false false true
-    unfolding nextTaken
-    slo-taken = take-done _ (seen-ok e bit false true true l refl refl)
+    slo-taken = takes-slo _ (seen-ok e bit false true true l refl refl) refl refl .1
 
     fast-taken : after Call.take (Seen e bit false false true) ≡ Seen e bit false false false
-    unfolding nextTaken
-    fast-taken = take-done _ (seen-ok e bit false false true l refl refl)
+    fast-taken = takes-fast _ (seen-ok e bit false false true l refl refl) refl refl refl .1
 
     two-taken : (slo fast : Bool) → (not slo || fast) ≡ true → afterAll (downTo slo fast) (Seen e bit false true true) ≡ Seen e bit false slo fast
     two-taken true true f = refl

@@ -22,9 +22,9 @@ use Rattle.sync.specs.Register.{shown, readRegister}
 use Rattle.sync.specs.Interrupts.{errTaken, sloTaken, fastTaken, nextTaken}
 use Rattle.sync.specs.Calls.{Call, after, afterAll}
 use Rattle.sync.specs.Runs.{pulsedBoard, quietCall, quietCalls, lasts, lastsAll, Since, pulse, pulseless, Before}
-use Rattle.sync.proofs.counting.Laws.{count-none, frequency-above}
+use Rattle.sync.proofs.counting.Laws.{count-none, count-late, frequency-above}
 use Rattle.sync.proofs.lawful.Laws.{still, seen-fits, seen-late}
-use Rattle.sync.proofs.stepping.Laws.{passed, later, held-below, as-held, held-plus, falls-held, count-of-held, later-seen, later-unseen}
+use Rattle.sync.proofs.stepping.Laws.{missed, counted, passed, later, held-below, as-held, held-plus, falls-held, count-of-held, later-seen, later-unseen}
 use Rattle.sync.proofs.interrupts.Laws.{none-waits}
 use Rattle.sync.proofs.Keeps.{keeps, keeps-all, started-lawful}
 use Rattle.sync.proofs.Done.{set-done, set-refused, step-done, run-done, quiet-done, read-done, take-done, vector-done}
@@ -189,6 +189,24 @@ module _ (b : Board) where
     unfolding errs
     errs-next pulse = rw (a .seen, early-next, late-next) refl
 
+    -- A RUN FROM HERE
+
+    run-is : (n : ℕ) → after (Call.run n) d ≡ passed n d
+    run-is n = run-done d (a .known) n ∙ later-seen n d (a .seen)
+
+    missed-at : (n : ℕ) → missed d n ≡ (ltb j 1008001 && leb 1008001 (j + n))
+    missed-at n =
+        rw (a .elapsed)
+        (as-held (λ (x : ℕ). ltb x 1008001 && leb 1008001 (x + n)) j (λ g. sym (ap (λ (t : Bool). t && leb 1008001 (j + n)) (le-ltb j 1008001 g))))
+
+    counted-at : (n : ℕ) → counted d n ≡ ltb (count (frequency (b .rc1)) j) (count (frequency (b .rc1)) (j + n))
+    counted-at n =
+        let f = frequency (b .rc1) in
+        let late = count-late f (frequency-above (b .rc1)) in
+        rw (a .rc1, a .elapsed)
+        (as-held (λ (x : ℕ). ltb (count f x) (count f (x + n))) j
+        (λ g. ap₂ ltb (late 1008001 (omega arith) ∙ sym (late j (omega arith))) (late (1008001 + n) (omega arith) ∙ sym (late (j + n) (omega arith)))))
+
     since-at : Since b j d
     unfolding stepped
     since-at =
@@ -197,6 +215,9 @@ module _ (b : Board) where
           quiet-err = ap (λ (x : Board). x .err) (step-done d (a .known) false) ∙ ap (λ (t : Bool). d .err || t) (errs-next false);
           quiet-slo = ap (λ (x : Board). x .slo) (step-done d (a .known) false) ∙ or-false (d .slo);
           quiet-fast = ap (λ (x : Board). x .fast) (step-done d (a .known) false) ∙ ap (λ (t : Bool). d .fast || t) counts-next;
+          run-err = λ n. ap (λ (x : Board). x .err) (run-is n) ∙ ap (λ (t : Bool). d .err || t) (missed-at n);
+          run-slo = λ n. ap (λ (x : Board). x .slo) (run-is n);
+          run-fast = λ n. ap (λ (x : Board). x .fast) (run-is n) ∙ ap (λ (t : Bool). d .fast || t) (counted-at n);
           pulse-err = ap (λ (x : Board). x .err) (step-done d (a .known) true) ∙ ap (λ (t : Bool). d .err || t) (errs-next true);
           in-time = in-time-next;
           pulse-bit = at-pulse d (a .known) .bit ∙ or-false (not (inTime d)) ∙ ap not in-time-next;

@@ -79,7 +79,11 @@ pub record Since (b : Board) (j : ℕ) (d : Board) : Type 0 where
   pub quiet-err : after (Call.step false) d .err ≡ (d .err || eqb (j + 1) 1008001)
   pub quiet-slo : after (Call.step false) d .slo ≡ d .slo
   pub quiet-fast : after (Call.step false) d .fast ≡ (d .fast || countFalls (frequency (b .rc1)) (j + 1))
-  -- with a pulse it raises ERR if that is early, or on the 1,008,001st; and the bit is clear afterwards exactly if the pulse is in time
+  -- a run raises ERR if the 1,008,001st is among its microseconds, and FAST if the count rises over it; nothing else
+  pub run-err : (n : ℕ) → after (Call.run n) d .err ≡ (d .err || (ltb j 1008001 && leb 1008001 (j + n)))
+  pub run-slo : (n : ℕ) → after (Call.run n) d .slo ≡ d .slo
+  pub run-fast : (n : ℕ) → after (Call.run n) d .fast ≡ (d .fast || ltb (count (frequency (b .rc1)) j) (count (frequency (b .rc1)) (j + n)))
+  -- a pulse on the next microsecond raises ERR if it is early, or on the 1,008,001st; and the bit is clear afterwards exactly if the pulse is in time
   pub pulse-err : after (Call.step true) d .err ≡ (d .err || (ltb (j + 1) 992000 || eqb (j + 1) 1008001))
   pub in-time : inTime d ≡ (leb 992000 (j + 1) && leb (j + 1) 1008000)
   pub pulse-bit : after (Call.step true) d .bit ≡ not (leb 992000 (j + 1) && leb (j + 1) 1008000)

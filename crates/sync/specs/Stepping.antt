@@ -24,7 +24,7 @@ held m = pick (ltb m 1008001) m 1008001
 unfoldable pub inTime : Board → Bool
 inTime b = not (b .seen) || (leb 992000 (reached b) && leb (reached b) 1008000)
 
--- an earlier one is out of time at once; with none by 1,008,000 the error is raised on the next microsecond
+-- an earlier one is out of time at once; with none by 1,008,000 the error is raised on the next microsecond, and the late pulse after it raises no second one
 unfoldable pub errs : Board → Bool → Bool
 errs b pulse = b .seen && ((pulse && ltb (reached b) 992000) || eqb (reached b) 1008001)
 
@@ -34,7 +34,8 @@ counts b = b .seen && countFalls (frequency (b .rc1)) (reached b)
 
 -- A STEP
 
--- each pulse restarts the count and raises SLO; an error raises ERR and sets the bit, an in-time pulse clears it; each count step and each pulse raises FAST
+-- each pulse restarts the count, a step due then falling away, and raises SLO; an error raises ERR and sets the bit; an in-time pulse clears the bit; each count step and
+-- each pulse raises FAST
 unfoldable pub stepped : Board → Bool → Board
 stepped b pulse =
     record {
