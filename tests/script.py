@@ -18,9 +18,12 @@ bytes, hold 7 before. A card is shown as year, day and tick; strobe, 0 or its ki
 CONTROL and the event latch; the time latch; mode, format, modulation, clock, generator, minus, size of the offset; done; the queue's fill; and each of its 64 bytes that
 is not 0, as place:byte.
 
-The answers are worked out here from the page; nothing of crates/ is read. What a wait lists is found by going through its window tick by tick.
+The answers are worked out here from the page; nothing of crates/ is read. What a wait lists is found by going through its window tick by tick. Days are counted by
+Python's own calendar.
 """
+import calendar
 import functools
+from datetime import date, timedelta
 
 from listing import answer
 
@@ -34,7 +37,11 @@ WAIT_PLACES, BYTE_PLACES, UNTOUCHED = 10, 12, 7
 
 
 def days_in(year):
-    return 366 if year % 4 == 0 else 365
+    return 366 if calendar.isleap(year) else 365
+
+
+def date_of(year, day):
+    return date(year, 1, 1) + timedelta(days=day - 1)
 
 
 def read_words(words):
@@ -265,20 +272,16 @@ class Card:
     # waiting
 
     def ticks_left(self):
-        """Up to the last tick of year 9999, counted in days."""
+        """Up to the last tick of year 9999."""
         year, day, tick = self.time
-        days = sum(days_in(y) for y in range(year + 1, 10_000)) + days_in(year) - day
-        return days * DAY + DAY - 1 - tick
+        return (date.max - date_of(year, day)).days * DAY + DAY - 1 - tick
 
     def pass_(self, ticks):
-        """So many ticks later, a day at most."""
+        """So many ticks later."""
         year, day, tick = self.time
-        tick += ticks
-        if tick >= DAY:
-            tick, day = tick - DAY, day + 1
-        if day > days_in(year):
-            year, day = year + 1, 1
-        self.time = (year, day, tick)
+        days, tick = divmod(tick + ticks, DAY)
+        then = date_of(year, day) + timedelta(days=days)
+        self.time = (then.year, then.timetuple().tm_yday, tick)
         if len(self.periodic) == 3:
             n1, n2, count = self.periodic
             self.periodic = (n1, n2, (count + ticks) % (n1 * n2))

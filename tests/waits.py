@@ -67,7 +67,7 @@ def chains(s):
 
 def ends(s):
     for words, year, day in (("Midnight", 2004, 1), ("Day 365 of a year of 366 days", 2004, 365), ("The end of a year of 366 days", 2004, 366),
-                             ("The end of a year of 365 days", 2001, 365), ("The end of 1900, which has 366 days here", 1900, 366)):
+                             ("The end of a year of 365 days", 2001, 365)):
         s.say(words)
         s.fresh()
         s.set(("t", year, day, 23, 59, 59), ("d", 4000, 2500), ("a", 0, 0, 0, 0))
@@ -81,6 +81,17 @@ def ends(s):
         s.set(("t", 2001, 365, 23, 59, 59), ("d", 3000, 1000), ("a", 23, 59, 59, 999))
 
     s.chain(1, SECOND + 100, last_second)
+
+
+def centuries(s):
+    for year in (1900, 2000, 2100, 2400, 9900, 9996):
+        s.say(f"The end of day 365 of {year}, and of day 366, set and held")
+        s.fresh()
+        for day in (365, 366):
+            s.set(("t", year, day, 23, 59, 59))
+            s.wait(1, SECOND)
+        s.time(year, 366, DAY - 1)
+        s.wait(1, 1)
 
 
 def last_ticks(s):
@@ -189,6 +200,6 @@ if __name__ == "__main__":
     s = Waits()
     for s.way, words in (("n", "BY VALUE"), ("i", "IN PLACE")):
         s.say(words)
-        for part in (examples, chains, ends, last_ticks, refusals, strobes, dividers, pending):
+        for part in (examples, chains, ends, centuries, last_ticks, refusals, strobes, dividers, pending):
             part(s)
     s.write_files("waits")

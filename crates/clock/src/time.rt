@@ -4,7 +4,7 @@ use wire::time::Ticks;
 ghost use mathlib.Core.Path.{_≡_};
 ghost use mathlib.Core.Bool.{true};
 ghost use Prim.Native.Nat.{_≤_};
-ghost use Rattle.clock.specs.Time.{daysIn, later, timeLawful};
+ghost use Rattle.clock.specs.Time.{daysIn, daysBefore, later, timeLawful};
 
 // An instant: a year 1 to 9999, a day within it from 1 on, a tick of day.
 pub struct Time {
@@ -17,7 +17,25 @@ pub struct Time {
 pub fn days_in(year: u16) -> u16
     ensures { λ r. ⌜ r ≡ daysIn year ⌝ }
 {
-    if year % 4 == 0 { 366 } else { 365 }
+    if year % 4 != 0 {
+        return 365;
+    }
+    if year % 100 != 0 {
+        return 366;
+    }
+    if year % 400 == 0 { 366 } else { 365 }
+}
+
+// The days of all years from 1 on that come before a year: a day more for every fourth of them, one less for every hundredth, and again one more for every four hundredth.
+pub fn days_before(year: u16) -> u32
+    ensures { λ r. ⌜ r ≡ daysBefore year ⌝ }
+{
+    if year == 0 {
+        return 0;
+    }
+    let years = (year - 1) as u32;
+    let centuries = years / 100;
+    365 * years + years / 4 - centuries + centuries / 4
 }
 
 // The time so many ticks later, at most a day of them: one day or none is carried.

@@ -12,3 +12,4 @@ pub mod Readings
 pub mod Refused
 pub mod Saves
 pub mod Waits
+pub mod Years

@@ -4,3 +4,4 @@ pub mod Each
 pub mod Examples
 pub mod Readings
 pub mod Refusals
+pub mod Years

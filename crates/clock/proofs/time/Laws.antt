@@ -1,7 +1,7 @@
 -- The card's time, ticks later. Assumes nothing.
 use Prim.Native.Nat.{ℕ, zero, suc, _+_, _-_, _%_, _≤_, _<_}
 use mathlib.Core.Path.{_≡_, sym, _∙_, ap}
-use mathlib.Core.Bool.{Bool, true, false}
+use mathlib.Core.Bool.{Bool, true, false, _&&_, _||_, not}
 use mathlib.Core.Logic.{⊎-elim}
 use native.Mathlib.Nat.{add-zero, add-suc}
 use native.Mathlib.Omega.{arith}
@@ -47,7 +47,7 @@ time-lawful t h =
 -- a year has at least 365 days and at most 366
 pub days-in-year : (y : ℕ) → (365 ≤ daysIn y) × (daysIn y ≤ 366)
 unfolding daysIn
-days-in-year y = by (eqb (y % 4) 0)
+days-in-year y = by (eqb (y % 4) 0 && not (eqb (y % 100) 0) || eqb (y % 400) 0)
   where
     by : (b : Bool) → (365 ≤ pick b 366 365) × (pick b 366 365 ≤ 366)
     by true = (lit≤ tt, lit≤ tt)
@@ -88,7 +88,7 @@ past-day t k h l =
     ∙ later-add (suc (863999999999 - t .tick .ticks)) (t .tick .ticks + k - ticksOfDay) t
     ∙ ap (later (t .tick .ticks + k - ticksOfDay)) (to-next-day t h)
 
-from-midnight : (y d k : ℕ) → k < ticksOfDay → later k (instant y d 0) ≡ instant y d k
+pub from-midnight : (y d k : ℕ) → k < ticksOfDay → later k (instant y d 0) ≡ instant y d k
 from-midnight y d k h = within-day (instant y d 0) k (omega arith) ∙ ap (instant y d) (omega arith)
 
 module _ (t : Time) (k : ℕ) (h : t .tick .ticks < ticksOfDay) (l : k ≤ ticksOfDay) (m : ticksOfDay ≤ t .tick .ticks + k) where

@@ -68,7 +68,11 @@ pub clock-add : (c : Clock) (p m : ℕ) → clockLater m (clockLater p c) ≡ cl
 unfolding clockLater
 clock-add c p m = rw (← later-add p m (c .time), count-add p m (c .periodic))
 
--- the strobe stays
+-- its time moves by as many ticks, and its strobe stays
+pub time-later : (p : ℕ) (c : Clock) → clockLater p c .time ≡ later p (c .time)
+unfolding clockLater
+time-later p c = refl
+
 pub strobe-later : (p : ℕ) (c : Clock) → clockLater p c .strobe ≡ c .strobe
 unfolding clockLater
 strobe-later p c = refl
