@@ -83,7 +83,7 @@ def ends(s):
     s.chain(1, SECOND + 100, last_second)
 
 
-def centuries(s):
+def named_years(s):
     for year in (1900, 2000, 2100, 2400, 9900, 9996):
         s.say(f"The end of day 365 of {year}, and of day 366, set and held")
         s.fresh()
@@ -200,6 +200,6 @@ if __name__ == "__main__":
     s = Waits()
     for s.way, words in (("n", "BY VALUE"), ("i", "IN PLACE")):
         s.say(words)
-        for part in (examples, chains, ends, centuries, last_ticks, refusals, strobes, dividers, pending):
+        for part in (examples, chains, ends, named_years, last_ticks, refusals, strobes, dividers, pending):
             part(s)
     s.write_files("waits")

@@ -6,23 +6,21 @@
 stdin has a byte for each year, the last digit of how many days it has. stdout has a line for each, with a space before each number:
 
     the year and its days
-    the number when the day behind its last one is set, at 23:59:59, and when a card that holds that day is asked for its line
+    the number when the day after its last one is set, at 23:59:59, and when a card that holds that day is asked for its line
     the number when its last second is set, and when 10,000,000 ticks are waited from there, with room for one record
     year, day and tick of the card after that wait
     the days from day 1 of year 1 to day 1 of the year
 
 All of it is from Python's own calendar and the page; nothing of crates/ is read.
 """
-import calendar
 from datetime import date, timedelta
 
 LAST_SECOND = 863_990_000_000
 
 
 def line(year):
-    days = 366 if calendar.isleap(year) else 365
     last = date(year, 12, 31)
-    assert last.timetuple().tm_yday == days
+    days = last.timetuple().tm_yday
     if last == date.max:
         wait, then, tick = 16, last, LAST_SECOND
     else:

@@ -8,7 +8,7 @@ use Rattle.clock.specs.declared.time.Time.{Time}
 
 -- the leap rule: a year has 366 days if 4 divides it and 100 does not, or 400 divides it, else 365
 unfoldable pub daysIn : ℕ → ℕ
-daysIn year = pick (eqb (year % 4) 0 && not (eqb (year % 100) 0) || eqb (year % 400) 0) 366 365
+daysIn year = pick ((eqb (year % 4) 0 && not (eqb (year % 100) 0)) || eqb (year % 400) 0) 366 365
 
 -- the days of n years in a row, from a first one on
 unfoldable pub daysOver : ℕ → ℕ → ℕ

@@ -26,7 +26,7 @@ pub fn days_in(year: u16) -> u16
     if year % 400 == 0 { 366 } else { 365 }
 }
 
-// The days of all years from 1 on that come before a year: a day more for every fourth of them, one less for every hundredth, and again one more for every four hundredth.
+// The days of the years from 1 on that come before a year, none for 0 and 1: 365 for each, one more for every fourth, one less for every hundredth, and again one more for every four hundredth.
 pub fn days_before(year: u16) -> u32
     ensures { λ r. ⌜ r ≡ daysBefore year ⌝ }
 {

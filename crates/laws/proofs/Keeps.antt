@@ -53,7 +53,7 @@ module _ (c : Card) (h : lawful c ≡ true) where
   abbrev p : Parts c
   p = parts c h
 
-  keeps-clock : (k : Clock) → clockLawful k ≡ true → lawful (withClock c k) ≡ true
+  pub keeps-clock : (k : Clock) → clockLawful k ≡ true → lawful (withClock c k) ≡ true
   keeps-clock k e = whole _ (record { interrupts = p .interrupts; event = p .event; timeLatch = p .timeLatch; settings = p .settings; queue = p .queue; clock = e })
 
   keeps-time-latch : (ws : List ℕ) → latchLawful ws ≡ true → lawful (withTimeLatch c ws) ≡ true

@@ -1,100 +1,106 @@
 -- Every year ends, of the calls, as `specs/Years` has it, after as many days as the leap rule gives it. By the table of each call, and the clock's laws of a day that is carried. Assumes nothing.
 use Prim.Native.Nat.{ℕ, _+_, _-_, _≤_, _<_}
-use mathlib.Core.Path.{_≡_, refl, sym, ap, _∙_}
+use mathlib.Core.Path.{_≡_, refl, ap, _∙_, subst}
 use mathlib.Core.Bool.{Bool, true, false, not}
-use mathlib.Core.List.{List, [], _∷_}
+use mathlib.Core.List.{[], _∷_}
+use mathlib.Core.Logic.{⊎-elim}
 use native.Mathlib.Nat.{le-trans}
 use native.Mathlib.Omega.{arith}
-use lib.Dec.{ltb, eqb, lit≤}
+use lib.Dec.{T, leb, ltb, eqb, lit≤}
 use lib.ListN.{length}
-use borrow.Author.Tests.{le-ltb, lt-ltb, ne-eqb}
-use Rattle.wire.specs.Numbers.{_if_}
+use borrow.Author.Tests.{lt-ltb, le-ltb, ne-eqb, leb-true, leb-false}
+use Rattle.wire.specs.Digits.{pick}
+use Rattle.wire.specs.Numbers.{_if_, given}
 use Rattle.wire.specs.Time.{ticksOfDay}
+use Rattle.wire.proofs.digits.Laws.{lt-or-le}
 use Rattle.clock.specs.declared.time.Time.{Time}
 use Rattle.clock.specs.declared.clock.Clock.{Clock}
 use Rattle.clock.specs.Time.{daysIn, instant, later}
-use Rattle.clock.specs.Setting.{timeOfDay, dateFits}
-use Rattle.clock.proofs.time.Laws.{InRange, in-range, days-in-year, new-year}
+use Rattle.clock.specs.Clocks.{withTime}
+use Rattle.clock.proofs.time.Rule.{named as days}
+use Rattle.clock.proofs.time.Laws.{InRange, in-range, time-lawful, next-in-year, new-year}
 use Rattle.clock.proofs.lawful.Laws as clockLaws
-use Rattle.clock.proofs.setting.Laws.{date-within, date-fits}
+use Rattle.clock.proofs.setting.Laws.{day-fits}
 use Rattle.clock.proofs.waiting.Resume.{time-later}
 use Rattle.card.specs.declared.card.Card.{Card}
+use Rattle.card.specs.Cards.{withClock}
 use Rattle.card.specs.Lawful.{lawful}
 use Rattle.card.proofs.lawful.Laws.{parts}
 use Rattle.laws.specs.Calls.{Call, number}
-use Rattle.laws.specs.Demand.{Asked, ticksPassed, leftCard}
+use Rattle.laws.specs.Demand.{ticksPassed}
 use Rattle.laws.specs.Each.{Each}
-use Rattle.laws.specs.Years.{Ends, LastEnd, centuries}
+use Rattle.laws.specs.Years.{afterMidnight, Ends, LastEnd, named}
 use Rattle.laws.proofs.Demand.{leaves, some-pass}
-use Rattle.laws.proofs.Numbers.{done-exactly-if, given-exactly-if}
+use Rattle.laws.proofs.Keeps.{keeps-clock}
+use Rattle.laws.proofs.Numbers.{number-given, given-exactly-if}
 use Rattle.laws.proofs.Refused.{eighteen}
 
 -- the ranges of a lawful card's time
 ranges : (c : Card) → lawful c ≡ true → InRange (c .clock .time)
 ranges c l = in-range (c .clock .time) (clockLaws.parts (c .clock) (parts c l .clock) .time)
 
--- ---- setting
+-- a day after those of its year is in no lawful card
+beyond : (c : Card) (t : Bool) → lawful c ≡ t → daysIn (c .clock .time .year) < c .clock .time .day → t ≡ false
+beyond c true l b = absurd (omega (arith, ranges c l .proper .day-high))
+beyond c false l b = refl
 
-module _ (year : ℕ) (h : 1 ≤ year) (l : year ≤ 9999) where
-  sets : (c : Card) (hour minute second : ℕ) → lawful c ≡ true → timeOfDay hour minute second ≡ true → number (Call.setTime year (daysIn year) hour minute second) c ≡ 0
-  sets c hour minute second k t =
-      let d : 365 ≤ daysIn year = days-in-year year .0 in
-      let f : dateFits year (daysIn year) hour minute second ≡ true =
-      date-fits year (daysIn year) hour minute second (record { year-low = h; year-high = l; day-low = omega arith; day-high = omega arith; time = t }) in
-      done-exactly-if (Call.setTime year (daysIn year) hour minute second) c .1 (simp (k, f))
+-- one within them is in a lawful one
+within : (c : Card) (t : Time) → lawful c ≡ true → InRange t → lawful (withClock c (withTime (c .clock) t)) ≡ true
+within c t l h =
+    let k = clockLaws.parts (c .clock) (parts c l .clock) in
+    keeps-clock c l (withTime (c .clock) t) (clockLaws.whole (withTime (c .clock) t) (record { time = time-lawful t h; strobe = k .strobe; periodic = k .periodic }))
 
-refuses : (year : ℕ) (c : Card) (day hour minute second : ℕ) → lawful c ≡ true → daysIn year < day → number (Call.setTime year day hour minute second) c ≡ 11
-refuses year c day hour minute second k b =
-    given-exactly-if (Call.setTime year day hour minute second) c 11 (18 if not (lawful c) ∷ []) [] (not (dateFits year day hour minute second)) refl refl refl refl .1
-    (beyond (dateFits year day hour minute second) refl, simp k)
-  where
-    beyond : (t : Bool) → dateFits year day hour minute second ≡ t → not t ≡ true
-    beyond true e = absurd (omega (arith, date-within year day hour minute second e .day-high))
-    beyond false e = refl
+-- the number by the one test that is left
+either : (t : Bool) → given (18 if false ∷ 11 if not t ∷ []) ≡ pick t 0 11
+either true = refl
+either false = refl
 
--- ---- holding
+-- the day after a day of a year, at a tick
+abbrev day-after : ℕ → ℕ → ℕ → Time
+day-after year day tick = pick (ltb day (daysIn year)) (instant year (day + 1) tick) (instant (year + 1) 1 tick)
 
-torn : (year : ℕ) (k : Call) (c : Card) → c .clock .time .year ≡ year → daysIn year < c .clock .time .day → number k c ≡ 18
-torn year k c y b = eighteen k c .1 (go (lawful c) refl)
-  where
-    go : (t : Bool) → lawful c ≡ t → t ≡ false
-    go true e = absurd (omega (arith, ranges c e .proper .day-high, ap daysIn y))
-    go false e = refl
-
--- ---- waiting
-
--- the time p ticks after one of the last day of a year, if they reach its end
-module _ (c : Card) (p : ℕ) (k : lawful c ≡ true) (l : p ≤ ticksOfDay) (d : c .clock .time .day ≡ daysIn (c .clock .time .year)) (m : ticksOfDay ≤ c .clock .time .tick .ticks + p) where
-  next-year : later p (c .clock .time) ≡ instant (c .clock .time .year + 1) 1 (c .clock .time .tick .ticks + p - ticksOfDay)
-  next-year = new-year (c .clock .time) p (ranges c k .proper .tick) l m (omega arith)
-
-arrives : (year : ℕ) (c : Card) (n : ℕ) (row : List ℕ) → Asked c n (length row) → c .clock .time .year ≡ year → c .clock .time .day ≡ daysIn year
-    → ticksOfDay ≤ c .clock .time .tick .ticks + ticksPassed c n (length row)
-    → leftCard c n (length row) .clock .time ≡ instant (year + 1) 1 (c .clock .time .tick .ticks + ticksPassed c n (length row) - ticksOfDay)
-arrives year c n row h y d m =
-    let p : ℕ = ticksPassed c n (length row) in
-    let q : p ≤ ticksOfDay = le-trans (some-pass c n (length row) h .0) (h .day) in
-    ap (λ (k : Clock). k .time) (leaves c n row h .clock)
-    ∙ time-later p (c .clock)
-    ∙ next-year c p (h .known) q (d ∙ ap daysIn (sym y)) m
-    ∙ ap (λ (z : ℕ). instant (z + 1) 1 (c .clock .time .tick .ticks + p - ticksOfDay)) y
-
-past : (c : Card) (n : ℕ) (row : List ℕ) → lawful c ≡ true → n ≤ ticksOfDay → 0 < length row → c .clock .time .year ≡ 9999 → c .clock .time .day ≡ daysIn 9999
-    → ticksOfDay ≤ c .clock .time .tick .ticks + n → number (Call.wait n row) c ≡ 16
-past c n row k l z y d m =
-    let e : later n (c .clock .time) .year ≡ c .clock .time .year + 1 = ap (λ (t : Time). t .year) (next-year c n k l (d ∙ ap daysIn (sym y)) m) in
-    given-exactly-if (Call.wait n row) c 16 (18 if not (lawful c) ∷ 15 if ltb ticksOfDay n ∷ 14 if eqb (length row) 0 ∷ []) [] (ltb 9999 (later n (c .clock .time) .year)) refl refl refl refl .1
-    (lt-ltb 9999 (later n (c .clock .time) .year) (omega arith), simp (k, le-ltb ticksOfDay n l, ne-eqb (length row) 0 (λ w. absurd (omega arith))))
+-- the time p ticks on, if they pass midnight
+module _ (t : Time) (p : ℕ) (h : InRange t) (l : p ≤ ticksOfDay) (m : ticksOfDay ≤ t .tick .ticks + p) where
+  past-midnight : later p t ≡ day-after (t .year) (t .day) (t .tick .ticks + p - ticksOfDay)
+  past-midnight =
+      ⊎-elim
+      (λ d. rw (lt-ltb (t .day) (daysIn (t .year)) d) (next-in-year t p (h .proper .tick) l m d))
+      (λ d. rw (le-ltb (t .day) (daysIn (t .year)) d) (new-year t p (h .proper .tick) l m d))
+      (lt-or-le (t .day) (daysIn (t .year)))
 
 -- ---- every year
 
 pub ends : (year : ℕ) → 1 ≤ year → year ≤ 9999 → Ends year (daysIn year)
-ends year h l = record { sets = sets year h l; refuses = refuses year; torn = torn year; arrives = arrives year }
+ends year a b =
+    record {
+      sets = λ c day hour minute second l d t.
+          number-given (Call.setTime year day hour minute second) c
+          ∙ simp (l, day-fits year day hour minute second a b d t) (either (leb day (daysIn year)));
+      holds = λ c day tick l d h. held c day tick l d h (leb day (daysIn year)) refl;
+      torn = λ k c y d. eighteen k c .1 (beyond c (lawful c) refl (omega (arith, ap daysIn y)));
+      arrives = λ c n row h y m.
+          let p : ℕ = ticksPassed c n (length row) in
+          ap (λ (k : Clock). k .time) (leaves c n row h .clock)
+          ∙ time-later p (c .clock)
+          ∙ past-midnight (c .clock .time) p (ranges c (h .known)) (le-trans (some-pass c n (length row) h .0) (h .day)) m
+          ∙ ap (λ (z : ℕ). day-after z (c .clock .time .day) (afterMidnight c n (length row))) y;
+    }
+  where
+    held : (c : Card) (day tick : ℕ) → lawful c ≡ true → 1 ≤ day → tick < ticksOfDay → (t : Bool) → leb day (daysIn year) ≡ t → lawful (withClock c (withTime (c .clock) (instant year day tick))) ≡ t
+    held c day tick l d h true e = within c (instant year day tick) l (record { proper = record { year = a; day-low = d; day-high = leb-true day (daysIn year) e; tick = h }; year = b })
+    held c day tick l d h false e = beyond (withClock c (withTime (c .clock) (instant year day tick))) _ refl (leb-false day (daysIn year) e)
 
-pub last-end : LastEnd (daysIn 9999)
-last-end = record { past = past }
+pub last-end : LastEnd
+last-end c n row k l z y d m =
+    let t : Time = c .clock .time in
+    let f : daysIn (t .year) ≤ t .day = omega (arith, ap daysIn y, days .6) in
+    let e : later n t .year ≡ t .year + 1 = ap (λ (u : Time). u .year) (new-year t n (ranges c k .proper .tick) l m f) in
+    given-exactly-if (Call.wait n row) c 16 (18 if not (lawful c) ∷ 15 if ltb ticksOfDay n ∷ 14 if eqb (length row) 0 ∷ []) [] (ltb 9999 (later n t .year)) refl refl refl refl .1
+    (lt-ltb 9999 (later n t .year) (omega arith), simp (k, le-ltb ticksOfDay n l, ne-eqb (length row) 0 (λ w. absurd (omega arith))))
 
 -- and those of the table
-pub centuries-end : Each (λ (r : ℕ × ℕ). Ends (r .0) (r .1)) centuries
-unfolding daysIn
-centuries-end = (ends 1900 (lit≤ tt) (lit≤ tt), (ends 2000 (lit≤ tt) (lit≤ tt), (ends 2100 (lit≤ tt) (lit≤ tt), (ends 2400 (lit≤ tt) (lit≤ tt), (ends 9900 (lit≤ tt) (lit≤ tt), (ends 9996 (lit≤ tt) (lit≤ tt), tt))))))
+pub named-end : Each (λ (r : ℕ × ℕ). Ends (r .0) (r .1)) named
+named-end = (of 1900 (days .0) tt tt, (of 2000 (days .1) tt tt, (of 2100 (days .2) tt tt, (of 2400 (days .3) tt tt, (of 9900 (days .4) tt tt, (of 9996 (days .5) tt tt, tt))))))
+  where
+    of : (year : ℕ) {d : ℕ} → daysIn year ≡ d → T (leb 1 year) → T (leb year 9999) → Ends year d
+    of year e a b = subst (Ends year) e (ends year (lit≤ a) (lit≤ b))

@@ -1,6 +1,6 @@
 // Ends every year. Standard input has a byte for each, from year 1 on: the last digit of how many days it has. Out comes a line for each year: the year and its days; the
-// numbers that answer the day behind its last one, set and then held; those that answer its last second, set, and a wait over its end; the time that the wait comes to; and the days before
-// the year. `tests/years.py` says what they must be.
+// numbers given back when the day after its last one is set, and then held; when its last second is set, and a second waited; the time to which that wait comes; and the days
+// before the year. `tests/years.py` says what they must be.
 use card::card::Card;
 use card::registers::interrupt_line;
 use card::reset::fresh_card;
@@ -23,7 +23,7 @@ fn put_time(t: Time) {
     put(t.tick.ticks);
 }
 
-// The card with that day in it, whether it could be or not.
+// The card with a day in it, lawful or not.
 fn holding(card: Card, year: u16, day: u16) -> Card {
     let time = Time {
         year: year,
@@ -37,7 +37,7 @@ fn holding(card: Card, year: u16, day: u16) -> Card {
     held
 }
 
-// The day behind the last one, set and held.
+// The day after the last one, set and held.
 fn put_beyond(card: Card, year: u16, day: u16) {
     let set = set_time(card, year, day, 23, 59, 59);
     put_byte(set.number);
@@ -60,6 +60,7 @@ fn put_end(card: Card, year: u16, day: u16) {
     put_time(time);
 }
 
+// A digit's low four bits are its value.
 fn put_year(card: Card, year: u16, digit: u8) {
     let days = 360 + ((digit % 16) as u16);
     put_short(year);
@@ -70,6 +71,7 @@ fn put_year(card: Card, year: u16, digit: u8) {
     io::write_all(STDOUT_FILENO, b"\n");
 }
 
+// The years go round after 9999, so that any input will do.
 fn put_years(digits: &[u8]) {
     let card = fresh_card();
     for i in 0..digits.len() {

@@ -25,7 +25,6 @@ use Rattle.clock.specs.Setting.{timeOfDay, dateFits, timeSet, strobeFits
 use Rattle.clock.specs.Waiting.{passed, countLater, clockLater, waitLines}
 use Rattle.clock.proofs.time.Laws.{in-range, time-lawful, later-add, later-proper, later-year, later-lawful}
 use Rattle.clock.proofs.lawful.Laws.{Parts, parts, whole}
-use Rattle.clock.proofs.setting.Laws.{date-within}
 use Rattle.clock.proofs.waiting.Laws.{passes}
 use Rattle.clock.proofs.waiting.Answer.{Accepted, accepted}
 
@@ -72,14 +71,17 @@ time-of-day hour minute second e =
     (leb-true _ _ (a .0), leb-true _ _ (b .0), leb-true _ _ (b .1))
 
 date-lawful : (year day hour minute second : ℕ) → dateFits year day hour minute second ≡ true → timeLawful (instant year day (tickAt hour minute second 0)) ≡ true
-unfolding tickAt
+unfolding dateFits tickAt
 date-lawful year day hour minute second e =
-    let d = date-within year day hour minute second e in
-    let t = time-of-day hour minute second (d .time) in
+    let a = and-both (leb 1 year) _ e in
+    let b = and-both (leb year 9999) _ (a .1) in
+    let d = and-both (leb 1 day) _ (b .1) in
+    let f = and-both (leb day (daysIn year)) (timeOfDay hour minute second) (d .1) in
+    let t = time-of-day hour minute second (f .1) in
     time-lawful (instant year day (((hour * 60 + minute) * 60 + second) * 10000000 + 0))
     (record {
-      proper = record { year = d .year-low; day-low = d .day-low; day-high = d .day-high; tick = omega (arith, t .0, t .1, t .2) };
-      year = d .year-high;
+      proper = record { year = leb-true _ _ (a .0); day-low = leb-true _ _ (d .0); day-high = leb-true _ _ (f .0); tick = omega (arith, t .0, t .1, t .2) };
+      year = leb-true _ _ (b .0);
     })
 
 strobe-lawful : (s : StrobeAt) → strobeFits s ≡ true → strobeLawful (strobeKept s) ≡ true

@@ -4,7 +4,7 @@ use mathlib.Core.Path.{_≡_, sym, ap, _∙_}
 use mathlib.Core.Bool.{true, _&&_}
 use lib.Dec.{leb}
 use borrow.Author.Tests.{le-leb, leb-true}
-use Rattle.wire.proofs.digits.Laws.{and-both, and-left, and-right}
+use Rattle.wire.proofs.digits.Laws.{and-true, and-left, and-right}
 use Rattle.clock.specs.declared.setting.StrobeAt.{StrobeAt}
 use Rattle.clock.specs.declared.setting.StrobeAt.the-variants as StrobeAt
 use Rattle.clock.specs.declared.setting.Dividers.{Dividers}
@@ -12,27 +12,10 @@ use Rattle.clock.specs.declared.setting.Dividers.the-variants as Divider
 use Rattle.clock.specs.Time.{daysIn}
 use Rattle.clock.specs.Setting.{timeOfDay, dateFits, strobeFits, dividersFit}
 
--- the ranges of a date that fits, as inequalities
-pub record Date (year day hour minute second : ℕ) : Type 0 where
-  pub year-low : 1 ≤ year
-  pub year-high : year ≤ 9999
-  pub day-low : 1 ≤ day
-  pub day-high : day ≤ daysIn year
-  pub time : timeOfDay hour minute second ≡ true
-
-module _ (year day hour minute second : ℕ) where
-  pub date-within : dateFits year day hour minute second ≡ true → Date year day hour minute second
-  unfolding dateFits
-  date-within e =
-      let a = and-both (leb 1 year) _ e in
-      let b = and-both (leb year 9999) _ (a .1) in
-      let d = and-both (leb 1 day) _ (b .1) in
-      let f = and-both (leb day (daysIn year)) (timeOfDay hour minute second) (d .1) in
-      record { year-low = leb-true _ _ (a .0); year-high = leb-true _ _ (b .0); day-low = leb-true _ _ (d .0); day-high = leb-true _ _ (f .0); time = f .1 }
-
-  pub date-fits : Date year day hour minute second → dateFits year day hour minute second ≡ true
-  unfolding dateFits
-  date-fits h = simp (le-leb 1 year (h .year-low), le-leb year 9999 (h .year-high), le-leb 1 day (h .day-low), le-leb day (daysIn year) (h .day-high), h .time)
+-- of a year and a time of day within their ranges, the day decides
+pub day-fits : (year day hour minute second : ℕ) → 1 ≤ year → year ≤ 9999 → 1 ≤ day → timeOfDay hour minute second ≡ true → dateFits year day hour minute second ≡ leb day (daysIn year)
+unfolding dateFits
+day-fits year day hour minute second a b d t = simp (le-leb 1 year a, le-leb year 9999 b, le-leb 1 day d, t, and-true)
 
 -- what a strobe that fits is within
 pub daily-within : (at : StrobeAt) (hour minute second ms : ℕ) → strobeFits at ≡ true → at ≡ StrobeAt.Daily hour minute second ms → (hour ≤ 23) × ((minute ≤ 59) × ((second ≤ 59) × (ms ≤ 999)))

@@ -1,17 +1,17 @@
 -- The card's time, ticks later. Assumes nothing.
 use Prim.Native.Nat.{ℕ, zero, suc, _+_, _-_, _%_, _≤_, _<_}
 use mathlib.Core.Path.{_≡_, sym, _∙_, ap}
-use mathlib.Core.Bool.{Bool, true, false, _&&_, _||_, not}
+use mathlib.Core.Bool.{true}
 use mathlib.Core.Logic.{⊎-elim}
 use native.Mathlib.Nat.{add-zero, add-suc}
 use native.Mathlib.Omega.{arith}
 use borrow.Author.Tests.{lt-ltb, le-ltb, le-leb, leb-true, ltb-true}
-use lib.Dec.{eqb, lit<, lit≤}
+use lib.Dec.{lit<, lit≤}
 use Rattle.wire.proofs.digits.Laws.{lt-or-le, and-both}
-use Rattle.wire.specs.Digits.{pick}
 use Rattle.wire.specs.Time.{ticksOfDay}
 use Rattle.clock.specs.declared.time.Time.{Time}
 use Rattle.clock.specs.Time.{daysIn, instant, next, later, timeLawful}
+use Rattle.clock.proofs.time.Rule.{Rule, by-rule}
 
 -- ---- lawful times
 
@@ -46,12 +46,13 @@ time-lawful t h =
 
 -- a year has at least 365 days and at most 366
 pub days-in-year : (y : ℕ) → (365 ≤ daysIn y) × (daysIn y ≤ 366)
-unfolding daysIn
-days-in-year y = by (eqb (y % 4) 0 && not (eqb (y % 100) 0) || eqb (y % 400) 0)
+days-in-year y = of (by-rule y)
   where
-    by : (b : Bool) → (365 ≤ pick b 366 365) × (pick b 366 365 ≤ 366)
-    by true = (lit≤ tt, lit≤ tt)
-    by false = (lit≤ tt, lit≤ tt)
+    of : {d : ℕ} → Rule y d → (365 ≤ d) × (d ≤ 366)
+    of (Rule.common a) = (lit≤ tt, lit≤ tt)
+    of (Rule.fourth a b) = (lit≤ tt, lit≤ tt)
+    of (Rule.century a b) = (lit≤ tt, lit≤ tt)
+    of (Rule.four-hundredth a) = (lit≤ tt, lit≤ tt)
 
 -- ---- ticks add up
 

@@ -2,7 +2,7 @@
 -- the card's own clock. Assumes nothing.
 use Prim.Native.Nat.{ℕ, zero, suc, _+_, _-_, _*_, _/_, _%_, _≤_, _<_}
 use mathlib.Core.Path.{_≡_, refl, sym, _∙_, ap}
-use mathlib.Core.Bool.{Bool, true, false}
+use mathlib.Core.Bool.{true}
 use mathlib.Core.Logic.{⊎-elim}
 use native.Mathlib.Nat.{add-zero, add-suc, mod-lt, mod-self, mod-eq-of-lt, div-add-mod', div-self, div-eq-of-lt, mul-add-div-right, mul-add-mod-self-right}
 use native.Mathlib.Omega.{arith}
@@ -13,6 +13,7 @@ use Rattle.wire.specs.Digits.{pick}
 use Rattle.wire.specs.Time.{ticksOfDay}
 use Rattle.clock.specs.declared.time.Time.{Time}
 use Rattle.clock.specs.Time.{daysIn, daysOver, daysBefore, instant, later, timeLawful}
+use Rattle.clock.proofs.time.Rule.{Rule, by-rule}
 use Rattle.clock.proofs.time.Laws.{Proper, in-range, days-in-year, later-add, from-midnight, next-in-year, new-year}
 
 -- ---- years add up
@@ -59,13 +60,6 @@ four-hundred (suc first) =
     let g : daysIn (first + 400) ≡ daysIn first = comes-round first in
     omega arith
 
--- so the days before a year are 146,097 more 400 years on
-pub before-400 : (year : ℕ) → 1 ≤ year → daysBefore (year + 400) ≡ daysBefore year + 146097
-before-400 year h =
-    ap (daysOver 1) {x = year + 400 - 1} {y = year - 1 + 400} (omega arith)
-    ∙ over-add 1 (year - 1) 400
-    ∙ ap (λ (d : ℕ). daysBefore year + d) (four-hundred (1 + (year - 1)))
-
 -- ---- the days before a year
 
 -- 1 for a number that d divides
@@ -74,27 +68,15 @@ one-if d n = pick (eqb (n % d) 0) 1 0
 
 -- the rule as a sum: a day more if 4 divides the year, one less if 100 does, and again one more if 400 does
 rule-sum : (year : ℕ) → daysIn year + one-if 100 year ≡ 365 + one-if 4 year + one-if 400 year
-unfolding daysIn
-rule-sum year =
-    ⊎-elim
-    (λ l. simp (gt-eqb (year % 4) l, gt-eqb (year % 100) (omega arith), gt-eqb (year % 400) (omega arith)))
-    (λ four. ⊎-elim
-    (λ l. simp (le-eqb (year % 4) four, gt-eqb (year % 100) l, gt-eqb (year % 400) (omega arith)))
-    (λ hundred. simp (le-eqb (year % 4) four, le-eqb (year % 100) hundred) (by (eqb (year % 400) 0)))
-    (lt-or-le 0 (year % 100)))
-    (lt-or-le 0 (year % 4))
+rule-sum year = sum (by-rule year)
   where
-    gt-eqb : (x : ℕ) → 0 < x → eqb x 0 ≡ false
-    gt-eqb x l = ne-eqb x 0 (λ e. absurd (omega arith))
+    sum : {d : ℕ} → Rule year d → d + one-if 100 year ≡ 365 + one-if 4 year + one-if 400 year
+    sum (Rule.common a) = simp (ne-eqb (year % 4) 0 a, ne-eqb (year % 100) 0 (λ e. a (omega arith)), ne-eqb (year % 400) 0 (λ e. a (omega arith)))
+    sum (Rule.fourth a b) = simp (eq-eqb (year % 4) 0 a, ne-eqb (year % 100) 0 b, ne-eqb (year % 400) 0 (λ e. b (omega arith)))
+    sum (Rule.century a b) = simp (eq-eqb (year % 4) 0 (omega arith), eq-eqb (year % 100) 0 a, ne-eqb (year % 400) 0 b)
+    sum (Rule.four-hundredth a) = simp (eq-eqb (year % 4) 0 (omega arith), eq-eqb (year % 100) 0 (omega arith), eq-eqb (year % 400) 0 a)
 
-    le-eqb : (x : ℕ) → x ≤ 0 → eqb x 0 ≡ true
-    le-eqb x l = eq-eqb x 0 (omega arith)
-
-    by : (b : Bool) → pick b 366 365 + 1 ≡ 365 + 1 + pick b 1 0
-    by true = refl
-    by false = refl
-
--- a quotient goes up by one on each number that its divisor divides
+-- the quotient of a number up to the divisor
 quotient-within : (d x : ℕ) → 0 < x → x ≤ d → x / d ≡ one-if d x
 quotient-within d x z h =
     ⊎-elim
@@ -102,6 +84,7 @@ quotient-within d x z h =
     (λ l. let e : x ≡ d = omega arith in rw e (simp (div-self {n = d} (omega arith), mod-self d)))
     (lt-or-le x d)
 
+-- a quotient goes up by one on each number that its divisor divides
 quotient-on : (d n : ℕ) → 0 < d → suc n / d ≡ n / d + one-if d (suc n)
 quotient-on d n h =
     let split : suc n ≡ n / d * d + suc (n % d) = omega (arith, div-add-mod' n d) in
@@ -109,6 +92,7 @@ quotient-on d n h =
     let r : suc n % d ≡ suc (n % d) % d = ap (λ (x : ℕ). x % d) split ∙ mul-add-mod-self-right (n / d) d (suc (n % d)) in
     q ∙ ap (λ (x : ℕ). n / d + x) (rw r (quotient-within d (suc (n % d)) (omega arith) (mod-lt n h)))
 
+-- the closed form, without a difference
 from-1 : (n : ℕ) → daysOver 1 n + n / 100 ≡ 365 * n + n / 4 + n / 400
 unfolding daysOver
 from-1 zero = refl
@@ -124,49 +108,42 @@ before-is year = omega (arith, from-1 (year - 1))
 
 -- ---- on the card's own clock
 
--- days on within a year
-days-later : (year k : ℕ) → k < daysIn year → later (k * ticksOfDay) (instant year 1 0) ≡ instant year (suc k) 0
+-- p ticks later, and then the other q
+and-then : (k p q : ℕ) (t u : Time) → k ≡ p + q → later p t ≡ u → later k t ≡ later q u
+and-then k p q t u e f = ap (λ (j : ℕ). later j t) e ∙ later-add p q t ∙ ap (later q) f
+
+-- k days on within a year
+days-later : (year k : ℕ) → k < daysIn year → later (k * ticksOfDay) (instant year 1 0) ≡ instant year (1 + k) 0
 unfolding later
 days-later year zero h = refl
 days-later year (suc k) h =
-    ap (λ (j : ℕ). later j (instant year 1 0)) {x = suc k * ticksOfDay} {y = k * ticksOfDay + ticksOfDay} (omega arith)
-    ∙ later-add (k * ticksOfDay) ticksOfDay (instant year 1 0)
-    ∙ ap (later ticksOfDay) (days-later year k (omega arith))
-    ∙ next-in-year (instant year (suc k) 0) ticksOfDay (lit< tt) (lit≤ tt) (lit≤ tt) h
+    and-then (suc k * ticksOfDay) (k * ticksOfDay) ticksOfDay _ _ (omega arith) (days-later year k (omega arith))
+    ∙ next-in-year (instant year (1 + k) 0) ticksOfDay (lit< tt) (lit≤ tt) (lit≤ tt) (omega arith)
     ∙ ap (λ (d : ℕ). instant year d 0) (omega arith)
 
--- the days of a year on comes the next one
-year-later : (year : ℕ) → later (daysIn year * ticksOfDay) (instant year 1 0) ≡ instant (suc year) 1 0
+-- all of its days on
+year-later : (year : ℕ) → later (daysIn year * ticksOfDay) (instant year 1 0) ≡ instant (year + 1) 1 0
 year-later year =
     let d : 365 ≤ daysIn year = days-in-year year .0 in
-    ap (λ (j : ℕ). later j (instant year 1 0)) {x = daysIn year * ticksOfDay} {y = (daysIn year - 1) * ticksOfDay + ticksOfDay} (omega arith)
-    ∙ later-add ((daysIn year - 1) * ticksOfDay) ticksOfDay (instant year 1 0)
-    ∙ ap (later ticksOfDay) (days-later year (daysIn year - 1) (omega arith))
-    ∙ new-year (instant year (suc (daysIn year - 1)) 0) ticksOfDay (lit< tt) (lit≤ tt) (lit≤ tt) (omega arith)
-    ∙ ap (λ (y : ℕ). instant y 1 0) (omega arith)
+    and-then _ ((daysIn year - 1) * ticksOfDay) ticksOfDay _ _ (omega arith) (days-later year (daysIn year - 1) (omega arith))
+    ∙ new-year (instant year (1 + (daysIn year - 1)) 0) ticksOfDay (lit< tt) (lit≤ tt) (lit≤ tt) (omega arith)
 
 -- the days of n years on from the first tick of a year comes the first tick of the n-th year after it
 pub years-later : (first n : ℕ) → later (daysOver first n * ticksOfDay) (instant first 1 0) ≡ instant (first + n) 1 0
 unfolding later daysOver
 years-later first zero = ap (λ (y : ℕ). instant y 1 0) (sym (add-zero first))
 years-later first (suc n) =
-    ap (λ (j : ℕ). later j (instant first 1 0)) {x = (daysOver first n + daysIn (first + n)) * ticksOfDay} {y = daysOver first n * ticksOfDay + daysIn (first + n) * ticksOfDay} (omega arith)
-    ∙ later-add (daysOver first n * ticksOfDay) (daysIn (first + n) * ticksOfDay) (instant first 1 0)
-    ∙ ap (later (daysIn (first + n) * ticksOfDay)) (years-later first n)
+    and-then ((daysOver first n + daysIn (first + n)) * ticksOfDay) (daysOver first n * ticksOfDay) (daysIn (first + n) * ticksOfDay) _ _ (omega arith) (years-later first n)
     ∙ year-later (first + n)
     ∙ ap (λ (y : ℕ). instant y 1 0) (omega arith)
 
--- every lawful time is as many days after the first tick of year 1 as there are before its year, the days before its day, and its tick of day
+-- every lawful time comes after the first tick of year 1 by the days before its year, the days before its day, and its tick of day
 pub counted : (t : Time) → timeLawful t ≡ true → later ((daysBefore (t .year) + (t .day - 1)) * ticksOfDay + t .tick .ticks) (instant 1 1 0) ≡ t
 counted t l =
     let p : Proper t = in-range t l .proper in
-    let d : ℕ = daysBefore (t .year) * ticksOfDay in
+    let y : 1 + (t .year - 1) ≡ t .year = omega (arith, p .year) in
+    let d : 1 + (t .day - 1) ≡ t .day = omega (arith, p .day-low) in
     let k : ℕ = (t .day - 1) * ticksOfDay in
-    ap (λ (j : ℕ). later j (instant 1 1 0)) {x = (daysBefore (t .year) + (t .day - 1)) * ticksOfDay + t .tick .ticks} {y = d + (k + t .tick .ticks)} (omega arith)
-    ∙ later-add d (k + t .tick .ticks) (instant 1 1 0)
-    ∙ ap (later (k + t .tick .ticks)) (years-later 1 (t .year - 1))
-    ∙ ap (λ (y : ℕ). later (k + t .tick .ticks) (instant y 1 0)) {x = 1 + (t .year - 1)} {y = t .year} (omega (arith, p .year))
-    ∙ later-add k (t .tick .ticks) (instant (t .year) 1 0)
-    ∙ ap (later (t .tick .ticks)) (days-later (t .year) (t .day - 1) (omega (arith, p .day-low, p .day-high)))
-    ∙ ap (λ (e : ℕ). later (t .tick .ticks) (instant (t .year) e 0)) {x = suc (t .day - 1)} {y = t .day} (omega (arith, p .day-low))
+    and-then _ (daysBefore (t .year) * ticksOfDay) (k + t .tick .ticks) _ _ (omega arith) (years-later 1 (t .year - 1) ∙ ap (λ (x : ℕ). instant x 1 0) y)
+    ∙ and-then _ k (t .tick .ticks) _ _ refl (days-later (t .year) (t .day - 1) (omega (arith, p .day-high)) ∙ ap (λ (x : ℕ). instant (t .year) x 0) d)
     ∙ from-midnight (t .year) (t .day) (t .tick .ticks) (p .tick)
