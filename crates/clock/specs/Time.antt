@@ -1,4 +1,4 @@
--- The card's time.
+-- The card's time. Its leap rule is that of 02, R-2, in place of 01's.
 use Prim.Native.Nat.{ℕ, zero, suc, _+_, _-_, _%_}
 use mathlib.Core.Bool.{Bool, _&&_, _||_, not}
 use lib.Dec.{leb, ltb, eqb}

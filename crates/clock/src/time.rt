@@ -13,7 +13,7 @@ pub struct Time {
     pub tick: Ticks,
 }
 
-// The days of a year: the leap rule.
+// The days of a year: 366 if 4 divides it and 100 does not, or 400 divides it, else 365.
 pub fn days_in(year: u16) -> u16
     ensures { λ r. ⌜ r ≡ daysIn year ⌝ }
 {

@@ -1,24 +1,22 @@
 -- Every year ends, of the calls, as `specs/Years` has it, after as many days as the leap rule gives it. By the table of each call, and the clock's laws of a day that is carried. Assumes nothing.
-use Prim.Native.Nat.{ℕ, _+_, _-_, _≤_, _<_}
-use mathlib.Core.Path.{_≡_, refl, ap, _∙_, subst}
-use mathlib.Core.Bool.{Bool, true, false, not}
-use mathlib.Core.List.{[], _∷_}
-use mathlib.Core.Logic.{⊎-elim}
+use Prim.Native.Nat.{ℕ, _+_, _≤_, _<_}
+use mathlib.Core.Path.{_≡_, refl, sym, ap, _∙_, subst}
+use mathlib.Core.Bool.{Bool, true, false, _&&_, not}
+use mathlib.Core.List.{List, [], _∷_}
 use native.Mathlib.Nat.{le-trans}
 use native.Mathlib.Omega.{arith}
-use lib.Dec.{T, leb, ltb, eqb, lit≤}
+use lib.Dec.{leb, ltb, eqb}
 use lib.ListN.{length}
-use borrow.Author.Tests.{lt-ltb, le-ltb, ne-eqb, leb-true, leb-false}
+use borrow.Author.Tests.{lt-ltb, le-ltb, le-leb, ne-eqb, eqb-true, leb-true}
 use Rattle.wire.specs.Digits.{pick}
 use Rattle.wire.specs.Numbers.{_if_, given}
 use Rattle.wire.specs.Time.{ticksOfDay}
-use Rattle.wire.proofs.digits.Laws.{lt-or-le}
+use Rattle.wire.proofs.digits.Laws.{clash, and-both}
 use Rattle.clock.specs.declared.time.Time.{Time}
 use Rattle.clock.specs.declared.clock.Clock.{Clock}
 use Rattle.clock.specs.Time.{daysIn, instant, later}
 use Rattle.clock.specs.Clocks.{withTime}
-use Rattle.clock.proofs.time.Rule.{named as days}
-use Rattle.clock.proofs.time.Laws.{InRange, in-range, time-lawful, next-in-year, new-year}
+use Rattle.clock.proofs.time.Laws.{InRange, in-range, time-lawful, new-year, day-after, past-midnight}
 use Rattle.clock.proofs.lawful.Laws as clockLaws
 use Rattle.clock.proofs.setting.Laws.{day-fits}
 use Rattle.clock.proofs.waiting.Resume.{time-later}
@@ -26,7 +24,8 @@ use Rattle.card.specs.declared.card.Card.{Card}
 use Rattle.card.specs.Cards.{withClock}
 use Rattle.card.specs.Lawful.{lawful}
 use Rattle.card.proofs.lawful.Laws.{parts}
-use Rattle.laws.specs.Calls.{Call, number}
+use Rattle.card.proofs.registers.Laws.{time-lawful as card-time}
+use Rattle.laws.specs.Calls.{Call}
 use Rattle.laws.specs.Demand.{ticksPassed}
 use Rattle.laws.specs.Each.{Each}
 use Rattle.laws.specs.Years.{afterMidnight, Ends, LastEnd, named}
@@ -37,16 +36,16 @@ use Rattle.laws.proofs.Refused.{eighteen}
 
 -- the ranges of a lawful card's time
 ranges : (c : Card) → lawful c ≡ true → InRange (c .clock .time)
-ranges c l = in-range (c .clock .time) (clockLaws.parts (c .clock) (parts c l .clock) .time)
+ranges c l = in-range (c .clock .time) (card-time c l)
 
--- a day after those of its year is in no lawful card
+-- a day after the last of its year is in no lawful card
 beyond : (c : Card) (t : Bool) → lawful c ≡ t → daysIn (c .clock .time .year) < c .clock .time .day → t ≡ false
 beyond c true l b = absurd (omega (arith, ranges c l .proper .day-high))
 beyond c false l b = refl
 
--- one within them is in a lawful one
-within : (c : Card) (t : Time) → lawful c ≡ true → InRange t → lawful (withClock c (withTime (c .clock) t)) ≡ true
-within c t l h =
+-- a lawful card with another time is lawful if that is
+with-time : (c : Card) (t : Time) → lawful c ≡ true → InRange t → lawful (withClock c (withTime (c .clock) t)) ≡ true
+with-time c t l h =
     let k = clockLaws.parts (c .clock) (parts c l .clock) in
     keeps-clock c l (withTime (c .clock) t) (clockLaws.whole (withTime (c .clock) t) (record { time = time-lawful t h; strobe = k .strobe; periodic = k .periodic }))
 
@@ -55,52 +54,69 @@ either : (t : Bool) → given (18 if false ∷ 11 if not t ∷ []) ≡ pick t 0 
 either true = refl
 either false = refl
 
--- the day after a day of a year, at a tick
-abbrev day-after : ℕ → ℕ → ℕ → Time
-day-after year day tick = pick (ltb day (daysIn year)) (instant year (day + 1) tick) (instant (year + 1) 1 tick)
-
--- the time p ticks on, if they pass midnight
-module _ (t : Time) (p : ℕ) (h : InRange t) (l : p ≤ ticksOfDay) (m : ticksOfDay ≤ t .tick .ticks + p) where
-  past-midnight : later p t ≡ day-after (t .year) (t .day) (t .tick .ticks + p - ticksOfDay)
-  past-midnight =
-      ⊎-elim
-      (λ d. rw (lt-ltb (t .day) (daysIn (t .year)) d) (next-in-year t p (h .proper .tick) l m d))
-      (λ d. rw (le-ltb (t .day) (daysIn (t .year)) d) (new-year t p (h .proper .tick) l m d))
-      (lt-or-le (t .day) (daysIn (t .year)))
-
 -- ---- every year
 
-pub ends : (year : ℕ) → 1 ≤ year → year ≤ 9999 → Ends year (daysIn year)
-ends year a b =
-    record {
-      sets = λ c day hour minute second l d t.
-          number-given (Call.setTime year day hour minute second) c
-          ∙ simp (l, day-fits year day hour minute second a b d t) (either (leb day (daysIn year)));
-      holds = λ c day tick l d h. held c day tick l d h (leb day (daysIn year)) refl;
-      torn = λ k c y d. eighteen k c .1 (beyond c (lawful c) refl (omega (arith, ap daysIn y)));
-      arrives = λ c n row h y m.
-          let p : ℕ = ticksPassed c n (length row) in
-          ap (λ (k : Clock). k .time) (leaves c n row h .clock)
-          ∙ time-later p (c .clock)
-          ∙ past-midnight (c .clock .time) p (ranges c (h .known)) (le-trans (some-pass c n (length row) h .0) (h .day)) m
-          ∙ ap (λ (z : ℕ). day-after z (c .clock .time .day) (afterMidnight c n (length row))) y;
-    }
-  where
-    held : (c : Card) (day tick : ℕ) → lawful c ≡ true → 1 ≤ day → tick < ticksOfDay → (t : Bool) → leb day (daysIn year) ≡ t → lawful (withClock c (withTime (c .clock) (instant year day tick))) ≡ t
-    held c day tick l d h true e = within c (instant year day tick) l (record { proper = record { year = a; day-low = d; day-high = leb-true day (daysIn year) e; tick = h }; year = b })
-    held c day tick l d h false e = beyond (withClock c (withTime (c .clock) (instant year day tick))) _ refl (leb-false day (daysIn year) e)
+-- whether a year has a day; a card with that day in it
+module _ (year : ℕ) (a : 1 ≤ year) (b : year ≤ 9999) where
+  abbrev has : ℕ → Bool
+  has day = leb 1 day && leb day (daysIn year)
+
+  abbrev at : Card → ℕ → ℕ → Card
+  at c day tick = withClock c (withTime (c .clock) (instant year day tick))
+
+  held : (c : Card) (day tick : ℕ) → lawful c ≡ true → tick < ticksOfDay → (t : Bool) → has day ≡ t → lawful (at c day tick) ≡ t
+  held c day tick l h true e =
+      let d = and-both (leb 1 day) (leb day (daysIn year)) e in
+      with-time c (instant year day tick) l (record { proper = record { year = a; day-low = leb-true 1 day (d .0); day-high = leb-true day (daysIn year) (d .1); tick = h }; year = b })
+  held c day tick l h false e = go (lawful (at c day tick)) refl
+    where
+      go : (t : Bool) → lawful (at c day tick) ≡ t → t ≡ false
+      go true k =
+          let p = ranges (at c day tick) k .proper in
+          clash (sym (simp (le-leb 1 day (p .day-low), le-leb day (daysIn year) (p .day-high))) ∙ e)
+      go false k = refl
+
+  pub ends : Ends year (daysIn year)
+  ends =
+      record {
+        sets = λ c day hour minute second l t. number-given (Call.setTime year day hour minute second) c ∙ simp (l, day-fits year day hour minute second a b t) (either (has day));
+        holds = λ c day tick l h. held c day tick l h (has day) refl;
+        torn = λ k c y d. eighteen k c .1 (beyond c (lawful c) refl (omega (arith, ap daysIn y)));
+        arrives = λ c n row h y m.
+            let p : ℕ = ticksPassed c n (length row) in
+            ap (λ (k : Clock). k .time) (leaves c n row h .clock)
+            ∙ time-later p (c .clock)
+            ∙ past-midnight (c .clock .time) p (ranges c (h .known) .proper .tick) (le-trans (some-pass c n (length row) h .0) (h .day)) m
+            ∙ ap (λ (z : ℕ). day-after z (c .clock .time .day) (afterMidnight c n (length row))) y;
+      }
+
+-- no wait passes the end of 9999
+in-9999 : daysIn 9999 ≡ 365
+unfolding daysIn
+in-9999 = refl
 
 pub last-end : LastEnd
 last-end c n row k l z y d m =
     let t : Time = c .clock .time in
-    let f : daysIn (t .year) ≤ t .day = omega (arith, ap daysIn y, days .6) in
+    let f : daysIn (t .year) ≤ t .day = omega (arith, ap daysIn y, in-9999) in
     let e : later n t .year ≡ t .year + 1 = ap (λ (u : Time). u .year) (new-year t n (ranges c k .proper .tick) l m f) in
     given-exactly-if (Call.wait n row) c 16 (18 if not (lawful c) ∷ 15 if ltb ticksOfDay n ∷ 14 if eqb (length row) 0 ∷ []) [] (ltb 9999 (later n t .year)) refl refl refl refl .1
     (lt-ltb 9999 (later n t .year) (omega arith), simp (k, le-ltb ticksOfDay n l, ne-eqb (length row) 0 (λ w. absurd (omega arith))))
 
--- and those of the table
+-- ---- the table, by one test over it
+
+abbrev right : List (ℕ × ℕ) → Bool
+right [] = true
+right (r ∷ rs) = (leb 1 (r .0) && (leb (r .0) 9999 && eqb (daysIn (r .0)) (r .1))) && right rs
+
+each-ends : (rs : List (ℕ × ℕ)) → right rs ≡ true → Each (λ (r : ℕ × ℕ). Ends (r .0) (r .1)) rs
+each-ends [] h = tt
+each-ends (r ∷ rs) h =
+    let p = and-both (leb 1 (r .0) && (leb (r .0) 9999 && eqb (daysIn (r .0)) (r .1))) (right rs) h in
+    let a = and-both (leb 1 (r .0)) (leb (r .0) 9999 && eqb (daysIn (r .0)) (r .1)) (p .0) in
+    let b = and-both (leb (r .0) 9999) (eqb (daysIn (r .0)) (r .1)) (a .1) in
+    (subst (Ends (r .0)) (eqb-true _ _ (b .1)) (ends (r .0) (leb-true _ _ (a .0)) (leb-true _ _ (b .0))), each-ends rs (p .1))
+
 pub named-end : Each (λ (r : ℕ × ℕ). Ends (r .0) (r .1)) named
-named-end = (of 1900 (days .0) tt tt, (of 2000 (days .1) tt tt, (of 2100 (days .2) tt tt, (of 2400 (days .3) tt tt, (of 9900 (days .4) tt tt, (of 9996 (days .5) tt tt, tt))))))
-  where
-    of : (year : ℕ) {d : ℕ} → daysIn year ≡ d → T (leb 1 year) → T (leb year 9999) → Ends year d
-    of year e a b = subst (Ends year) e (ends year (lit≤ a) (lit≤ b))
+unfolding daysIn
+named-end = each-ends named refl

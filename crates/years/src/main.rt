@@ -60,7 +60,7 @@ fn put_end(card: Card, year: u16, day: u16) {
     put_time(time);
 }
 
-// A digit's low four bits are its value.
+// The line of a year. Of the digit, the low four bits are its value.
 fn put_year(card: Card, year: u16, digit: u8) {
     let days = 360 + ((digit % 16) as u16);
     put_short(year);

@@ -13,9 +13,9 @@ use Rattle.clock.specs.Time.{daysIn}
 use Rattle.clock.specs.Setting.{timeOfDay, dateFits, strobeFits, dividersFit}
 
 -- of a year and a time of day within their ranges, the day decides
-pub day-fits : (year day hour minute second : ℕ) → 1 ≤ year → year ≤ 9999 → 1 ≤ day → timeOfDay hour minute second ≡ true → dateFits year day hour minute second ≡ leb day (daysIn year)
+pub day-fits : (year day hour minute second : ℕ) → 1 ≤ year → year ≤ 9999 → timeOfDay hour minute second ≡ true → dateFits year day hour minute second ≡ (leb 1 day && leb day (daysIn year))
 unfolding dateFits
-day-fits year day hour minute second a b d t = simp (le-leb 1 year a, le-leb year 9999 b, le-leb 1 day d, t, and-true)
+day-fits year day hour minute second a b t = simp (le-leb 1 year a, le-leb year 9999 b, t, and-true)
 
 -- what a strobe that fits is within
 pub daily-within : (at : StrobeAt) (hour minute second ms : ℕ) → strobeFits at ≡ true → at ≡ StrobeAt.Daily hour minute second ms → (hour ≤ 23) × ((minute ≤ 59) × ((second ≤ 59) × (ms ≤ 999)))

@@ -6,8 +6,9 @@ use mathlib.Core.Logic.{⊎-elim}
 use native.Mathlib.Nat.{add-zero, add-suc}
 use native.Mathlib.Omega.{arith}
 use borrow.Author.Tests.{lt-ltb, le-ltb, le-leb, leb-true, ltb-true}
-use lib.Dec.{lit<, lit≤}
+use lib.Dec.{ltb, lit<, lit≤}
 use Rattle.wire.proofs.digits.Laws.{lt-or-le, and-both}
+use Rattle.wire.specs.Digits.{pick}
 use Rattle.wire.specs.Time.{ticksOfDay}
 use Rattle.clock.specs.declared.time.Time.{Time}
 use Rattle.clock.specs.Time.{daysIn, instant, next, later, timeLawful}
@@ -92,6 +93,10 @@ past-day t k h l =
 pub from-midnight : (y d k : ℕ) → k < ticksOfDay → later k (instant y d 0) ≡ instant y d k
 from-midnight y d k h = within-day (instant y d 0) k (omega arith) ∙ ap (instant y d) (omega arith)
 
+-- the day after a day of a year, at a tick
+abbrev pub day-after : ℕ → ℕ → ℕ → Time
+day-after year day tick = pick (ltb day (daysIn year)) (instant year (day + 1) tick) (instant (year + 1) 1 tick)
+
 module _ (t : Time) (k : ℕ) (h : t .tick .ticks < ticksOfDay) (l : k ≤ ticksOfDay) (m : ticksOfDay ≤ t .tick .ticks + k) where
   -- into the next day of the year
   pub next-in-year : t .day < daysIn (t .year) → later k t ≡ instant (t .year) (t .day + 1) (t .tick .ticks + k - ticksOfDay)
@@ -104,6 +109,14 @@ module _ (t : Time) (k : ℕ) (h : t .tick .ticks < ticksOfDay) (l : k ≤ ticks
   unfolding next
   new-year d =
       past-day t k h m ∙ rw (le-ltb (t .day) (daysIn (t .year)) d) (from-midnight (t .year + 1) 1 (t .tick .ticks + k - ticksOfDay) (omega arith))
+
+  -- one of the two
+  pub past-midnight : later k t ≡ day-after (t .year) (t .day) (t .tick .ticks + k - ticksOfDay)
+  past-midnight =
+      ⊎-elim
+      (λ d. rw (lt-ltb (t .day) (daysIn (t .year)) d) (next-in-year d))
+      (λ d. rw (le-ltb (t .day) (daysIn (t .year)) d) (new-year d))
+      (lt-or-le (t .day) (daysIn (t .year)))
 
 -- ---- one tick later, by the three ways that it can go
 

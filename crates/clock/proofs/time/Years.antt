@@ -27,15 +27,6 @@ over-add first m (suc n) =
     let f : daysIn (first + (m + n)) ≡ daysIn (first + m + n) = ap daysIn {x = first + (m + n)} {y = first + m + n} (omega arith) in
     ap (daysOver first) (add-suc m n) ∙ omega arith
 
--- the years behind the first one, and those up to the last but one
-from-next : (first n : ℕ) → daysIn first + daysOver (suc first) n ≡ daysOver first n + daysIn (first + n)
-unfolding daysOver
-from-next first zero = omega (arith, ap daysIn (add-zero first))
-from-next first (suc n) =
-    let e : daysIn first + daysOver (suc first) n ≡ daysOver first n + daysIn (first + n) = from-next first n in
-    let f : daysIn (first + suc n) ≡ daysIn (suc first + n) = ap daysIn {x = first + suc n} {y = suc first + n} (omega arith) in
-    omega arith
-
 -- ---- 400 years
 
 -- the rule comes round in 400 years
@@ -51,14 +42,19 @@ from-0 : daysOver 0 400 ≡ 146097
 unfolding daysOver daysIn
 from-0 = refl
 
+one-year : (year : ℕ) → daysOver year 1 ≡ daysIn year
+unfolding daysOver
+one-year year = omega (arith, ap daysIn (add-zero year))
+
 -- any 400 years in a row have 146,097 days: those from the next year on lose the first one and have one like it behind
 pub four-hundred : (first : ℕ) → daysOver first 400 ≡ 146097
 four-hundred zero = from-0
 four-hundred (suc first) =
     let e : daysOver first 400 ≡ 146097 = four-hundred first in
-    let f : daysIn first + daysOver (suc first) 400 ≡ daysOver first 400 + daysIn (first + 400) = from-next first 400 in
-    let g : daysIn (first + 400) ≡ daysIn first = comes-round first in
-    omega arith
+    let f : daysOver first 401 ≡ daysOver first 1 + daysOver (first + 1) 400 = over-add first 1 400 in
+    let g : daysOver first 401 ≡ daysOver first 400 + daysOver (first + 400) 1 = over-add first 400 1 in
+    let h : daysOver (first + 1) 400 ≡ daysOver (suc first) 400 = ap (λ (y : ℕ). daysOver y 400) {x = first + 1} {y = suc first} (omega arith) in
+    omega (arith, one-year first, one-year (first + 400), comes-round first)
 
 -- ---- the days before a year
 
@@ -128,7 +124,7 @@ year-later year =
     and-then _ ((daysIn year - 1) * ticksOfDay) ticksOfDay _ _ (omega arith) (days-later year (daysIn year - 1) (omega arith))
     ∙ new-year (instant year (1 + (daysIn year - 1)) 0) ticksOfDay (lit< tt) (lit≤ tt) (lit≤ tt) (omega arith)
 
--- the days of n years on from the first tick of a year comes the first tick of the n-th year after it
+-- from the first tick of a year, the days of n years lead to the first tick of the n-th year after it
 pub years-later : (first n : ℕ) → later (daysOver first n * ticksOfDay) (instant first 1 0) ≡ instant (first + n) 1 0
 unfolding later daysOver
 years-later first zero = ap (λ (y : ℕ). instant y 1 0) (sym (add-zero first))
