@@ -56,11 +56,12 @@ either false = refl
 
 -- ---- every year
 
--- whether a year has a day; a card with that day in it
 module _ (year : ℕ) (a : 1 ≤ year) (b : year ≤ 9999) where
+  -- whether the year has a day
   abbrev has : ℕ → Bool
   has day = leb 1 day && leb day (daysIn year)
 
+  -- a card with that day in it
   abbrev at : Card → ℕ → ℕ → Card
   at c day tick = withClock c (withTime (c .clock) (instant year day tick))
 
@@ -90,11 +91,11 @@ module _ (year : ℕ) (a : 1 ≤ year) (b : year ≤ 9999) where
             ∙ ap (λ (z : ℕ). day-after z (c .clock .time .day) (afterMidnight c n (length row))) y;
       }
 
--- no wait passes the end of 9999
 in-9999 : daysIn 9999 ≡ 365
 unfolding daysIn
 in-9999 = refl
 
+-- no wait passes the end of 9999
 pub last-end : LastEnd
 last-end c n row k l z y d m =
     let t : Time = c .clock .time in
