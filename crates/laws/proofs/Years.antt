@@ -38,10 +38,10 @@ use Rattle.laws.proofs.Refused.{eighteen}
 ranges : (c : Card) → lawful c ≡ true → InRange (c .clock .time)
 ranges c l = in-range (c .clock .time) (card-time c l)
 
--- a day after the last of its year is in no lawful card
-beyond : (c : Card) (t : Bool) → lawful c ≡ t → daysIn (c .clock .time .year) < c .clock .time .day → t ≡ false
-beyond c true l b = absurd (omega (arith, ranges c l .proper .day-high))
-beyond c false l b = refl
+-- a test that cannot hold
+never : (t : Bool) → (t ≡ true → ⊥) → t ≡ false
+never true h = absurd (h refl)
+never false h = refl
 
 -- a lawful card with another time is lawful if that is
 with-time : (c : Card) (t : Time) → lawful c ≡ true → InRange t → lawful (withClock c (withTime (c .clock) t)) ≡ true
@@ -69,20 +69,16 @@ module _ (year : ℕ) (a : 1 ≤ year) (b : year ≤ 9999) where
   held c day tick l h true e =
       let d = and-both (leb 1 day) (leb day (daysIn year)) e in
       with-time c (instant year day tick) l (record { proper = record { year = a; day-low = leb-true 1 day (d .0); day-high = leb-true day (daysIn year) (d .1); tick = h }; year = b })
-  held c day tick l h false e = go (lawful (at c day tick)) refl
-    where
-      go : (t : Bool) → lawful (at c day tick) ≡ t → t ≡ false
-      go true k =
-          let p = ranges (at c day tick) k .proper in
-          clash (sym (simp (le-leb 1 day (p .day-low), le-leb day (daysIn year) (p .day-high))) ∙ e)
-      go false k = refl
+  held c day tick l h false e =
+      never (lawful (at c day tick)) (λ k. let p = ranges (at c day tick) k .proper in
+      clash (sym (simp (le-leb 1 day (p .day-low), le-leb day (daysIn year) (p .day-high))) ∙ e))
 
   pub ends : Ends year (daysIn year)
   ends =
       record {
         sets = λ c day hour minute second l t. number-given (Call.setTime year day hour minute second) c ∙ simp (l, day-fits year day hour minute second a b t) (either (has day));
         holds = λ c day tick l h. held c day tick l h (has day) refl;
-        torn = λ k c y d. eighteen k c .1 (beyond c (lawful c) refl (omega (arith, ap daysIn y)));
+        torn = λ k c y d. eighteen k c .1 (never (lawful c) (λ l. omega (arith, ranges c l .proper .day-high, ap daysIn y)));
         arrives = λ c n row h y m.
             let p : ℕ = ticksPassed c n (length row) in
             ap (λ (k : Clock). k .time) (leaves c n row h .clock)
