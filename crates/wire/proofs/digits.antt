@@ -1,1 +1,3 @@
 pub mod Laws
+pub mod Parts
+pub mod Table

@@ -2,10 +2,10 @@
 use Prim.Native.Nat.{ℕ, zero, suc, _+_, _*_, _/_, _%_, _^_, _<_}
 use mathlib.Core.List.{List, [], _∷_, _++_}
 use mathlib.Core.Bool.{Bool, true, false, _&&_}
-use lib.ListN.{length, take, drop}
+use lib.ListN.{length, take, drop, getD}
 use mathlib.Core.Path.{_≡_}
 use lib.Dec.{ltb}
-use Rattle.wire.specs.declared.digits.Split.{Split}
+use Rattle.wire.specs.declared.digits.Counted.{Counted}
 
 -- the first of two values if the test holds, else the second
 abbrev pub pick : {A : Type 0} → Bool → A → A → A
@@ -39,14 +39,16 @@ unpacked b k (w ∷ ws) = digits b k w ++ unpacked b k ws
 
 -- WITHIN THE CRATE
 
--- one decimal digit taken off n: `unit` goes into it so often, and the rest is below `unit`
-pub record Taken (n unit : ℕ) (r : Split) : Type 0 where
-  pub sum : n ≡ r .digits * unit + r .rest
-  pub digit : r .digits < 10
-  pub rest : r .rest < unit
+-- how many parts make one unit
+abbrev pub parts : ℕ
+parts = 2 ^ 47
 
--- two decimal digits taken off n, as one number of base 16
-pub record TwoTaken (n unit : ℕ) (r : Split) : Type 0 where
-  pub digits : r .digits ≡ num 16 (Rattle.wire.specs.Digits.digits 10 2 (n / unit))
-  pub small : r .digits < 256
-  pub rest : r .rest ≡ n % unit
+-- x parts: so many whole units, and the rest is below one
+pub record Taken (x : ℕ) (r : Counted) : Type 0 where
+  pub sum : x ≡ r .count * parts + r .rest
+  pub rest : r .rest < parts
+
+-- a table of the two decimal digits of each number below a hundred, four bits to a digit
+pub record Pairs (table : List ℕ) : Type 0 where
+  pub all : length table ≡ 100
+  pub rule : (n : ℕ) → n < 100 → getD table n 0 ≡ num 16 (digits 10 2 n)

@@ -1,5 +1,5 @@
 -- Time words: five words, four decimal digits a word, highest digit first.
-use Prim.Native.Nat.{ℕ}
+use Prim.Native.Nat.{ℕ, _*_, _/_}
 use mathlib.Core.Bool.{Bool, _&&_, not}
 use mathlib.Core.List.{List, [], _∷_, _++_}
 use lib.ListN.{take, drop}
@@ -86,3 +86,13 @@ readDigits ds = pick (eqb (digitsRefusal ds) 0) (timeRead 0 (dayIn ds) (tickIn d
 -- reading words
 unfoldable pub readWords : List ℕ → TimeRead
 readWords ws = readDigits (unpacked 16 4 ws)
+
+-- WITHIN THE CRATE
+
+-- the whole seconds of a tick of day
+abbrev pub secondsIn : ℕ → ℕ
+secondsIn tick = tick / 10000000
+
+-- the digits of the table two at a time, as numbers: digits of base 100
+unfoldable pub pairsOf : ℕ → ℕ → List ℕ
+pairsOf day tick = 0 ∷ (digits 100 2 day ++ (hourOf tick ∷ minuteOf tick ∷ secondOf tick ∷ digits 100 4 (fractionOf tick * 10)))

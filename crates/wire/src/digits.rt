@@ -1,35 +1,28 @@
-// Decimal digits, taken off the front of a number two at a time, and read back. Every digit has four bits.
+// Decimal digits, two at a time: from a table, and read back. Every digit has four bits.
+//
+// No division leads from a number to its digits. It is told in parts of a unit, 2^47 to one, so a shift gives the whole units; and the rest, times a hundred, is told in
+// parts of a hundredth of that unit.
 ghost use mathlib.Core.Path.{_≡_};
-ghost use Prim.Native.Nat.{_*_, _<_, _≤_};
-ghost use Rattle.wire.specs.Digits.{digits, num, Taken, TwoTaken};
+ghost use Prim.Native.Nat.{_<_, _≤_};
+ghost use Rattle.wire.specs.Digits.{digits, num, Taken, Pairs};
 
-// What was taken off a number, four bits to a digit, and what is left of it.
-pub struct Split {
-    pub digits: u16,
+// How many parts make a unit.
+const PARTS: u64 = 0x8000_0000_0000;
+
+// So many whole units, and the parts that are left.
+pub struct Counted {
+    pub count: u64,
     pub rest: u64,
 }
 
-// The digit that counts `unit` in n, which is below ten of it. On the way from a time to its words, only this divides.
-fn digit(n: u64, unit: u64) -> Split
-    requires { ⌜ n < 10 * unit ⌝ }
-    ensures { λ r. ⌜ Taken n unit r ⌝ }
+// The whole units in x parts.
+pub(crate) fn split(x: u64) -> Counted
+    ensures { λ r. ⌜ Taken x r ⌝ }
 {
-    Split {
-        digits: (n / unit) as u16,
-        rest: n % unit,
-    }
-}
-
-// The two digits that count `unit` in n, which is below a hundred of it.
-pub(crate) fn pair(n: u64, unit: u64) -> Split
-    requires { ⌜ (n < 100 * unit) × (unit ≤ 36000000000) ⌝ }
-    ensures { λ r. ⌜ TwoTaken n unit r ⌝ }
-{
-    let tens = digit(n, 10 * unit);
-    let units = digit(tens.rest, unit);
-    Split {
-        digits: tens.digits * 16 + units.digits,
-        rest: units.rest,
+    let count = x >> 47;
+    Counted {
+        count: count,
+        rest: x - count * PARTS,
     }
 }
 
@@ -40,3 +33,114 @@ pub(crate) fn two(b: u16) -> u16
 {
     b / 16 * 10 + b % 16
 }
+
+// The table of pairs. Whoever asks for it has all of it laid out, so it is asked for once and read often.
+pub(crate) fn pair_table() -> [u8; 100]
+    ensures { λ r. ⌜ Pairs r ⌝ }
+{
+    PAIRS
+}
+
+// The two digits of each number below a hundred.
+const PAIRS: [u8; 100] = [
+    0x00,
+    0x01,
+    0x02,
+    0x03,
+    0x04,
+    0x05,
+    0x06,
+    0x07,
+    0x08,
+    0x09,
+    0x10,
+    0x11,
+    0x12,
+    0x13,
+    0x14,
+    0x15,
+    0x16,
+    0x17,
+    0x18,
+    0x19,
+    0x20,
+    0x21,
+    0x22,
+    0x23,
+    0x24,
+    0x25,
+    0x26,
+    0x27,
+    0x28,
+    0x29,
+    0x30,
+    0x31,
+    0x32,
+    0x33,
+    0x34,
+    0x35,
+    0x36,
+    0x37,
+    0x38,
+    0x39,
+    0x40,
+    0x41,
+    0x42,
+    0x43,
+    0x44,
+    0x45,
+    0x46,
+    0x47,
+    0x48,
+    0x49,
+    0x50,
+    0x51,
+    0x52,
+    0x53,
+    0x54,
+    0x55,
+    0x56,
+    0x57,
+    0x58,
+    0x59,
+    0x60,
+    0x61,
+    0x62,
+    0x63,
+    0x64,
+    0x65,
+    0x66,
+    0x67,
+    0x68,
+    0x69,
+    0x70,
+    0x71,
+    0x72,
+    0x73,
+    0x74,
+    0x75,
+    0x76,
+    0x77,
+    0x78,
+    0x79,
+    0x80,
+    0x81,
+    0x82,
+    0x83,
+    0x84,
+    0x85,
+    0x86,
+    0x87,
+    0x88,
+    0x89,
+    0x90,
+    0x91,
+    0x92,
+    0x93,
+    0x94,
+    0x95,
+    0x96,
+    0x97,
+    0x98,
+    0x99,
+];

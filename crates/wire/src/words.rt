@@ -1,5 +1,6 @@
 // Time words: a day and a tick of day as five words of four decimal digits, and back.
-use crate::digits::pair;
+use crate::digits::pair_table;
+use crate::digits::split;
 use crate::digits::two;
 use crate::numbers;
 use crate::time::TICKS_OF_DAY;
@@ -9,9 +10,21 @@ ghost use mathlib.Core.Path.{_≡_};
 ghost use mathlib.Core.List.{[], _∷_, _++_};
 ghost use Prim.Native.Nat.{_<_};
 ghost use lib.ListN.{take};
-ghost use Rattle.wire.specs.Digits.{digits, num, below, unpacked};
+ghost use Rattle.wire.specs.Digits.{digits, num, below, unpacked, Pairs};
 ghost use Rattle.wire.specs.Time.{ticksOfDay};
-ghost use Rattle.wire.specs.Words.{wordsOf, writable, wordsOrZero, writeWords, decimal, inRange, readWords};
+ghost use Rattle.wire.specs.Words.{secondsIn, pairsOf, wordsOf, writable, wordsOrZero, writeWords, decimal, inRange, readWords};
+
+// A day in parts of a hundred days, rounded up, as the next three are, so that no whole unit is counted short.
+const DAY_IN_HUNDREDS: u64 = 1_407_374_883_554;
+
+// A second in parts of an hour.
+const SECOND_IN_HOURS: u64 = 39_093_746_766;
+
+// A tenth of a tick in parts of a hundredth of a second.
+const TENTH_IN_HUNDREDTHS: u64 = 140_737_489;
+
+// 128 ticks in parts of a second.
+const TICKS_IN_SECONDS: u64 = 1_801_439_851;
 
 // What words are written as: the number, and five zero words beside a refusal.
 pub struct WordsWritten {
@@ -38,26 +51,65 @@ fn is_writable(day: u16, tick: u64) -> bool
     tick < TICKS_OF_DAY
 }
 
-// The words of a time, each from two pairs of digits.
+// The whole seconds in a tick of day. 78,125 times 128 ticks make one, so the lowest seven bits decide nothing.
+fn seconds_in(tick: u64) -> u64
+    requires { ⌜ tick < ticksOfDay ⌝ }
+    ensures { λ r. ⌜ r ≡ secondsIn tick ⌝ }
+{
+    split((tick >> 7) * TICKS_IN_SECONDS).count
+}
+
+// The pairs of digits of a time as numbers, from the first, which is spare. The fraction is in tenths of a tick, since its last digit is spare too.
+fn count_pairs(day: u64, tick: u64) -> [u64; 10]
+    requires { ⌜ (day < 1000) × (tick < ticksOfDay) ⌝ }
+    ensures { λ r. ⌜ r ≡ pairsOf day tick ⌝ }
+{
+    let whole = seconds_in(tick);
+    let fraction = (tick - whole * 10_000_000) * 10;
+    let hundreds = split(day * DAY_IN_HUNDREDS);
+    let days = split(hundreds.rest * 100);
+    let hours = split(whole * SECOND_IN_HOURS);
+    let minutes = split(hours.rest * 60);
+    let seconds = split(minutes.rest * 60);
+    let hundredths = split(fraction * TENTH_IN_HUNDREDTHS);
+    let tenths = split(hundredths.rest * 100);
+    let micros = split(tenths.rest * 100);
+    let last = split(micros.rest * 100);
+    [
+        0,
+        hundreds.count,
+        days.count,
+        hours.count,
+        minutes.count,
+        seconds.count,
+        hundredths.count,
+        tenths.count,
+        micros.count,
+        last.count,
+    ]
+}
+
+// The word of two pairs of digits.
+fn word(table: &[u8], high: u64, low: u64) -> u16
+    requires { ⌜ Pairs (now table) × (high < 100) × (low < 100) ⌝ }
+    ensures { λ r. ⌜ r ≡ num 16 (digits 10 2 high ++ digits 10 2 low) ⌝ }
+{
+    (table[high as usize] as u16) * 256 + (table[low as usize] as u16)
+}
+
+// The words of a time. The table is asked for before the pairs are counted, so that it stands ready when it is read.
 fn pack(day: u64, tick: u64) -> [u16; 5]
     requires { ⌜ (day < 1000) × (tick < ticksOfDay) ⌝ }
     ensures { λ r. ⌜ r ≡ wordsOf day tick ⌝ }
 {
-    let hundreds = pair(day, 100);
-    let days = pair(hundreds.rest, 1);
-    let hours = pair(tick, 36_000_000_000);
-    let minutes = pair(hours.rest, 600_000_000);
-    let seconds = pair(minutes.rest, 10_000_000);
-    let hundredths = pair(seconds.rest, 100_000);
-    let tenths = pair(hundredths.rest, 1_000);
-    let micros = pair(tenths.rest, 10);
-    let last = pair(micros.rest * 10, 1);
+    let table = pair_table();
+    let n = count_pairs(day, tick);
     [
-        hundreds.digits,
-        days.digits * 256 + hours.digits,
-        minutes.digits * 256 + seconds.digits,
-        hundredths.digits * 256 + tenths.digits,
-        micros.digits * 256 + last.digits,
+        word(&table, n[0], n[1]),
+        word(&table, n[2], n[3]),
+        word(&table, n[4], n[5]),
+        word(&table, n[6], n[7]),
+        word(&table, n[8], n[9]),
     ]
 }
 

@@ -2,10 +2,10 @@
 -- By induction on the number of digits, with division by a power of the base. Assumes nothing.
 use Prim.Native.Nat.{ℕ, zero, suc, _+_, _*_, _/_, _%_, _^_, _≤_, _<_, zero-le, suc-le-suc}
 use mathlib.Core.Path.{_≡_, refl, sym, _∙_, ap, ap₂}
-use mathlib.Core.List.{List, [], _∷_, _++_}
+use mathlib.Core.List.{List, [], _∷_, _++_, append-assoc}
 use mathlib.Core.Bool.{Bool, true, false, _&&_, _||_}
 use mathlib.Core.Logic.{_⊎_, inl, inr, ⊎-elim}
-use native.Mathlib.Nat.{pow-zero, pow-suc, mul-comm, mul-assoc, div-one, mod-one, mod-lt, mod-eq-of-lt, div-add-mod', div-div-eq-div-mul, mul-add-div-right, mul-add-mod-self-right, one-le-pow, suc-add, add-mul, add-assoc, zero-mul, suc-mul}
+use native.Mathlib.Nat.{pow-zero, pow-suc, mul-comm, mul-assoc, div-one, mod-one, mod-lt, mod-eq-of-lt, div-add-mod', div-div-eq-div-mul, mul-add-div-right, mul-add-mod-self-right, one-le-pow, suc-add, add-comm, add-mul, add-assoc, zero-mul, suc-mul}
 use native.Mathlib.Omega.{arith}
 use lib.Arith.{digits-div, digits-mod, digits-lt, mod-mul}
 use lib.Pow.{pow-add}
@@ -186,6 +186,25 @@ module _ (b : ℕ) (p : 0 < b) where
   unpacked-length k [] = sym (zero-mul k)
   unpacked-length k (w ∷ ws) = rw (length-append (digits b k w) (unpacked b k ws), digits-length k w, unpacked-length k ws, suc-mul (length ws) k) (omega arith)
 
+  pub unpacked-append : (k : ℕ) (ws vs : List ℕ) → unpacked b k (ws ++ vs) ≡ unpacked b k ws ++ unpacked b k vs
+  unfolding unpacked
+  unpacked-append k [] vs = refl
+  unpacked-append k (w ∷ ws) vs = ap (λ (l : List ℕ). digits b k w ++ l) (unpacked-append k ws vs) ∙ sym (append-assoc (digits b k w) (unpacked b k ws) (unpacked b k vs))
+
+  powers : (j k : ℕ) → (b ^ j) ^ k ≡ b ^ (k * j)
+  powers j zero = pow-zero (b ^ j) ∙ sym (ap (λ (m : ℕ). b ^ m) (zero-mul j) ∙ pow-zero b)
+  powers j (suc k) =
+      pow-suc (b ^ j) k ∙ ap (λ (m : ℕ). m * b ^ j) (powers j k) ∙ sym (pow-add b (k * j) j) ∙ ap (λ (m : ℕ). b ^ m) (sym (suc-mul k j))
+
+  -- a digit of base b ^ j is j digits of base b
+  pub digits-of-digits : (j k n : ℕ) → unpacked b j (digits (b ^ j) k n) ≡ digits b (k * j) n
+  unfolding digits unpacked
+  digits-of-digits j zero n = ap (λ (m : ℕ). digits b m n) (sym (zero-mul j))
+  digits-of-digits j (suc k) n =
+      ap₂ _++_ (ap (λ (m : ℕ). digits b j (n / m % b ^ j)) (powers j k) ∙ digits-mod-pow j (n / b ^ (k * j))) (digits-of-digits j k n)
+      ∙ sym (digits-split j (k * j) n)
+      ∙ ap (λ (m : ℕ). digits b m n) (sym (suc-mul k j ∙ add-comm (k * j) j))
+
   -- words are packed digits: k digits to a word, and the same digits again
   pub unpack-packed : (k m : ℕ) (ds : List ℕ) → length ds ≡ m * k → below b ds ≡ true → unpacked b k (packed b k m ds) ≡ ds
   unfolding packed unpacked
@@ -207,18 +226,6 @@ module _ (b : ℕ) (p : 0 < b) where
   pack-unpacked k (w ∷ ws) h =
       rw (take-at (digits b k w) (unpacked b k ws) k (digits-length k w), drop-at (digits b k w) (unpacked b k ws) k (digits-length k w), written k w (ltb-true w (b ^ k) (and-left (ltb w (b ^ k)) (below (b ^ k) ws) h)))
       (ap (λ (l : List ℕ). w ∷ l) (pack-unpacked k ws (and-right (ltb w (b ^ k)) (below (b ^ k) ws) h)))
-
--- two digits taken one after the other are the two digits of how often the unit goes in
-module _ (n unit t m u r : ℕ) (e : n ≡ t * (10 * unit) + m) (a : t < 10) (f : m ≡ u * unit + r) (c : u < 10) (g : r < unit) where
-  often : n ≡ (t * 10 + u) * unit + r
-  often = e ∙ rw (f, add-mul (t * 10) u unit, mul-assoc t 10 unit) (sym (add-assoc (t * (10 * unit)) (u * unit) r))
-
-  pub two-digits : t * 16 + u ≡ num 16 (digits 10 2 (n / unit))
-  unfolding digits num
-  two-digits = rw (often, digits-div (t * 10 + u) g) (simp div-one (omega arith))
-
-  pub two-rest : r ≡ n % unit
-  two-rest = sym (ap (λ (x : ℕ). x % unit) often ∙ digits-mod (t * 10 + u) g)
 
 pub packed-length : (b k m : ℕ) (ds : List ℕ) → length (packed b k m ds) ≡ m
 unfolding packed

@@ -6,15 +6,14 @@ use mathlib.Core.Bool.{Bool, true, false, _&&_}
 use mathlib.Core.List.{List, [], _∷_, _++_}
 use native.Mathlib.Nat.{div-one, div-div-eq-div-mul}
 use native.Mathlib.Omega.{arith}
-use lib.Dec.{leb, ltb, eqb, lit<, leb·suc-suc, leb·suc-zero, eqb·suc-zero}
+use lib.Dec.{leb, ltb, eqb, lit<, lit≤, leb·suc-suc, leb·suc-zero, eqb·suc-zero}
 use lib.ListN.{length, take, drop, getD}
 use lib.Seq.{ext-getD}
 use borrow.Author.Tests.{lt-ltb, le-leb, ltb-true, ltb-false, leb-true}
-use Rattle.wire.specs.Digits.{digits, num, below, packed, unpacked, TwoTaken}
-use Rattle.wire.specs.declared.digits.Split.{Split}
+use Rattle.wire.specs.Digits.{digits, num, below, packed, unpacked, Pairs}
 use Rattle.wire.specs.Time.{ticksOfDay, hourOf, minuteOf, secondOf, fractionOf, tickAt}
-use Rattle.wire.specs.Words.{timeDigits, wordsOf, wordsOrZero, writable, decimal, field, dayIn, hourIn, minuteIn, secondIn, fractionIn, tickIn, inRange, digitsRefusal, readDigits, timeRead}
-use Rattle.wire.proofs.digits.Laws.{and-left, and-right, and-assoc, and-true, below-at, below-both, mod-div, mod-mod-mul, digits-split, digits-mod-pow, num-append, written, packed-length}
+use Rattle.wire.specs.Words.{timeDigits, pairsOf, wordsOf, wordsOrZero, writable, decimal, field, dayIn, hourIn, minuteIn, secondIn, fractionIn, tickIn, inRange, digitsRefusal, readDigits, timeRead}
+use Rattle.wire.proofs.digits.Laws.{and-left, and-right, and-assoc, and-true, below-at, below-both, below-append, below-more, digits-below, num-below, mod-div, mod-mod-mul, digits-split, digits-mod-pow, digits-of-digits, unpacked-append, num-append, written, packed-length}
 
 -- what `writable` tests
 pub writable-day : (day tick : ℕ) → writable day tick ≡ true → (1 ≤ day) × (day ≤ 366)
@@ -38,103 +37,70 @@ writable-tick day tick e =
     let f = and-right (leb 1 day) (leb day 366 && ltb tick ticksOfDay) e in
     ltb-true tick ticksOfDay (and-right (leb day 366) (ltb tick ticksOfDay) f)
 
--- two decimal digits
-abbrev pub D : ℕ → List ℕ
-D n = digits 10 2 n
-
--- the day's hundreds stand behind the third spare digit
-day-pairs : (day : ℕ) → day < 1000 → 0 ∷ digits 10 3 day ≡ D (day / 100) ++ D day
+-- the third spare digit stands in front of the day's three
+with-spare : (day : ℕ) → day < 1000 → 0 ∷ digits 10 3 day ≡ digits 10 4 day
 unfolding digits
-day-pairs day h =
-    let z : day / 100 / 10 % 10 ≡ 0 = omega arith in
-    ap (λ (l : List ℕ). 0 ∷ l) (digits-split 10 (lit< tt) 1 2 day)
-    ∙ ap (λ (x : ℕ). x ∷ (digits 10 1 (day / 100) ++ D day)) (sym z)
+with-spare day h =
+    let z : 0 ≡ day / 1000 % 10 = omega arith in
+    ap (λ (x : ℕ). x ∷ digits 10 3 day) z
 
--- the last digit of the fraction stands in front of the fourth
-last-pair : (f : ℕ) → digits 10 1 f ++ (0 ∷ []) ≡ D (f % 10 * 10)
+-- and the last one behind the fraction's seven
+spare-behind : (f : ℕ) → digits 10 7 f ++ (0 ∷ []) ≡ digits 10 8 (f * 10)
 unfolding digits
-last-pair f =
-    let x : f / 1 % 10 ≡ f % 10 * 10 / 10 % 10 = rw (div-one f) (omega arith) in
-    let y : 0 ≡ f % 10 * 10 / 1 % 10 = rw (div-one (f % 10 * 10)) (omega arith) in
-    ap₂ (λ (a b : ℕ). a ∷ b ∷ []) x y
-
-fraction-pairs : (f : ℕ) → digits 10 7 f ++ (0 ∷ []) ≡ D (f / 100000) ++ (D (f / 1000) ++ (D (f / 10) ++ D (f % 10 * 10)))
-unfolding digits
-fraction-pairs f =
-    ap (λ (l : List ℕ). l ++ (0 ∷ [])) (digits-split 10 (lit< tt) 2 5 f)
-    ∙ ap (λ (l : List ℕ). D (f / 100000) ++ (l ++ (0 ∷ []))) (digits-split 10 (lit< tt) 2 3 f)
-    ∙ ap (λ (l : List ℕ). D (f / 100000) ++ (D (f / 1000) ++ (l ++ (0 ∷ [])))) (digits-split 10 (lit< tt) 2 1 f)
-    ∙ ap (λ (l : List ℕ). D (f / 100000) ++ (D (f / 1000) ++ (D (f / 10) ++ l))) (last-pair f)
+spare-behind f =
+    let e : f ≡ f * 10 / 10 = omega arith in
+    let z : 0 ≡ f * 10 / 1 % 10 = rw (div-one (f * 10)) (omega arith) in
+    ap₂ (λ (x y : ℕ). digits 10 7 x ++ (y ∷ [])) e z ∙ sym (digits-split 10 (lit< tt) 7 1 (f * 10))
 
 -- the digits of a time are ten pairs
-pub pairs : (day tick : ℕ) → day < 1000 →
-    timeDigits day tick
-    ≡ (0 ∷ 0 ∷ []) ++ (D (day / 100) ++ (D day ++ (D (hourOf tick) ++ (D (minuteOf tick) ++ (D (secondOf tick)
-    ++ (D (fractionOf tick / 100000) ++ (D (fractionOf tick / 1000) ++ (D (fractionOf tick / 10) ++ D (fractionOf tick % 10 * 10)))))))))
-unfolding timeDigits digits
+pairs : (day tick : ℕ) → day < 1000 → timeDigits day tick ≡ unpacked 10 2 (pairsOf day tick)
+unfolding timeDigits pairsOf unpacked digits
 pairs day tick h =
-    ap₂ (λ (l m : List ℕ). 0 ∷ 0 ∷ (l ++ (D (hourOf tick) ++ (D (minuteOf tick) ++ (D (secondOf tick) ++ m))))) (day-pairs day h) (fraction-pairs (fractionOf tick))
+    ap₂
+    (λ (l m : List ℕ). 0 ∷ 0 ∷ (l ++ (digits 10 2 (hourOf tick) ++ (digits 10 2 (minuteOf tick) ++ (digits 10 2 (secondOf tick) ++ m)))))
+    (with-spare day h ∙ sym (digits-of-digits 10 (lit< tt) 2 2 day))
+    (spare-behind (fractionOf tick) ∙ sym (digits-of-digits 10 (lit< tt) 2 4 (fractionOf tick * 10)))
+    ∙ ap (λ (l : List ℕ). 0 ∷ 0 ∷ l) (sym (unpacked-append 10 (lit< tt) 2 (digits 100 2 day) (hourOf tick ∷ minuteOf tick ∷ secondOf tick ∷ digits 100 4 (fractionOf tick * 10))))
 
--- and a word is two pairs
-pub word-of-pairs : (x y a b : ℕ) → a ≡ num 16 (D x) → b ≡ num 16 (D y) → a * 256 + b ≡ num 16 (D x ++ D y)
+-- each below a hundred
+pairs-below : (day tick : ℕ) → tick < ticksOfDay → below 100 (pairsOf day tick) ≡ true
+unfolding pairsOf below hourOf minuteOf secondOf
+pairs-below day tick h =
+    below-append 100 (digits 100 2 day) (hourOf tick ∷ minuteOf tick ∷ secondOf tick ∷ digits 100 4 (fractionOf tick * 10)) (digits-below 100 (lit< tt) 2 day)
+    (simp (lt-ltb (hourOf tick) 100 (omega arith), lt-ltb (minuteOf tick) 100 (omega arith), lt-ltb (secondOf tick) 100 (omega arith), digits-below 100 (lit< tt) 4 (fractionOf tick * 10)))
+
+-- so the table has the digits of any two of them
+pub two-below : {table : List ℕ} → Pairs table → (day tick : ℕ) → tick < ticksOfDay → (ns : List ℕ) → ns ≡ pairsOf day tick → (i j : ℕ) → i < 10 → j < 10 →
+    Pairs table × (getD ns i 0 < 100) × (getD ns j 0 < 100)
+unfolding pairsOf digits
+two-below p day tick h ns e i j k l =
+    let b = below-at 100 (pairsOf day tick) (pairs-below day tick h) in
+    (p, rw e (b i k), rw e (b j l))
+
+-- the two digits of a number have eight bits
+pub pair-small : (n : ℕ) → num 16 (digits 10 2 n) < 256
 unfolding digits
-word-of-pairs x y a b e f = rw (e, f) (sym (num-append 16 (lit< tt) (D x) (D y)))
+pair-small n = num-below 16 (lit< tt) (digits 10 2 n) (below-more 10 16 (lit≤ tt) (digits 10 2 n) (digits-below 10 (lit< tt) 2 n))
 
-five : {a b c d e a′ b′ c′ d′ e′ : ℕ} → a ≡ a′ → b ≡ b′ → c ≡ c′ → d ≡ d′ → e ≡ e′ → a ∷ b ∷ c ∷ d ∷ e ∷ [] ≡ a′ ∷ b′ ∷ c′ ∷ d′ ∷ e′ ∷ []
-five p q r s t = cc
+-- two pairs are a word
+pub word-of-pairs : (x y a b : ℕ) → a ≡ num 16 (digits 10 2 x) → b ≡ num 16 (digits 10 2 y) → a * 256 + b ≡ num 16 (digits 10 2 x ++ digits 10 2 y)
+unfolding digits
+word-of-pairs x y a b e f = rw (e, f) (sym (num-append 16 (lit< tt) (digits 10 2 x) (digits 10 2 y)))
 
--- pairs taken off one after the other, each from what the one before it left, are the words
-module _ (day tick : ℕ) (h : day < 1000) {s0 s1 s2 s3 s4 s5 s6 s7 s8 : Split}
-    (t0 : TwoTaken day 100 s0) (t1 : TwoTaken (s0 .rest) 1 s1)
-    (t2 : TwoTaken tick 36000000000 s2) (t3 : TwoTaken (s2 .rest) 600000000 s3) (t4 : TwoTaken (s3 .rest) 10000000 s4)
-    (t5 : TwoTaken (s4 .rest) 100000 s5) (t6 : TwoTaken (s5 .rest) 1000 s6) (t7 : TwoTaken (s6 .rest) 10 s7) (t8 : TwoTaken (s7 .rest * 10) 1 s8) where
-  tens-and-units : s1 .digits ≡ num 16 (D day)
-  tens-and-units = t1 .digits ∙ ap (λ (x : ℕ). num 16 (D x)) (div-one (s0 .rest) ∙ t0 .rest) ∙ ap (num 16) (digits-mod-pow 10 (lit< tt) 2 day)
+-- the word of the pairs at i and behind it
+abbrev pub wordAt : List ℕ → ℕ → ℕ
+wordAt ns i = num 16 (digits 10 2 (getD ns i 0) ++ digits 10 2 (getD ns (suc i) 0))
 
-  minute : s3 .digits ≡ num 16 (D (minuteOf tick))
-  unfolding minuteOf
-  minute = t3 .digits ∙ ap (λ (x : ℕ). num 16 (D x)) (ap (λ (x : ℕ). x / 600000000) (t2 .rest) ∙ mod-div tick {m = 60} (lit< tt) (lit< tt))
+-- two pairs to a word
+words-of-pairs : (day tick : ℕ) → day < 1000 → (ns : List ℕ) → ns ≡ pairsOf day tick →
+    wordAt ns 0 ∷ wordAt ns 2 ∷ wordAt ns 4 ∷ wordAt ns 6 ∷ wordAt ns 8 ∷ [] ≡ wordsOf day tick
+unfolding wordsOf pairsOf packed unpacked digits
+words-of-pairs day tick h ns e =
+    ap (λ (l : List ℕ). wordAt l 0 ∷ wordAt l 2 ∷ wordAt l 4 ∷ wordAt l 6 ∷ wordAt l 8 ∷ []) e ∙ ap (packed 16 4 5) (sym (pairs day tick h))
 
-  below-minute : s3 .rest ≡ tick % 600000000
-  below-minute = t3 .rest ∙ ap (λ (x : ℕ). x % 600000000) (t2 .rest) ∙ mod-mod-mul tick {m = 60} (lit< tt) (lit< tt)
-
-  second : s4 .digits ≡ num 16 (D (secondOf tick))
-  unfolding secondOf
-  second = t4 .digits ∙ ap (λ (x : ℕ). num 16 (D x)) (ap (λ (x : ℕ). x / 10000000) below-minute ∙ mod-div tick {m = 60} (lit< tt) (lit< tt))
-
-  below-second : s4 .rest ≡ fractionOf tick
-  unfolding fractionOf
-  below-second = t4 .rest ∙ ap (λ (x : ℕ). x % 10000000) below-minute ∙ mod-mod-mul tick {m = 60} (lit< tt) (lit< tt)
-
-  -- two digits of a fraction, where its upper ones are taken off already
-  pair-of : (n r u : ℕ) → 0 < u → r ≡ n % (100 * u) → num 16 (D (r / u)) ≡ num 16 (D (n / u))
-  pair-of n r u p e = ap (λ (x : ℕ). num 16 (D (x / u))) e ∙ ap (λ (x : ℕ). num 16 (D x)) (mod-div n {m = 100} (lit< tt) p) ∙ ap (num 16) (digits-mod-pow 10 (lit< tt) 2 (n / u))
-
-  rest-of : (n r u s : ℕ) → 0 < u → r ≡ n % (100 * u) → s ≡ r % u → s ≡ n % u
-  rest-of n r u s p e f = f ∙ ap (λ (x : ℕ). x % u) e ∙ mod-mod-mul n {m = 100} (lit< tt) p
-
-  f : ℕ
-  f = fractionOf tick
-
-  left5 : s5 .rest ≡ f % 100000
-  unfolding f
-  left5 = t5 .rest ∙ ap (λ (x : ℕ). x % 100000) below-second
-
-  left6 : s6 .rest ≡ f % 1000
-  left6 = rest-of f (s5 .rest) 1000 (s6 .rest) (lit< tt) left5 (t6 .rest)
-
-  left7 : s7 .rest ≡ f % 10
-  left7 = rest-of f (s6 .rest) 10 (s7 .rest) (lit< tt) left6 (t7 .rest)
-
-  pub five-words : s0 .digits ∷ (s1 .digits * 256 + s2 .digits) ∷ (s3 .digits * 256 + s4 .digits) ∷ (s5 .digits * 256 + s6 .digits) ∷ (s7 .digits * 256 + s8 .digits) ∷ [] ≡ wordsOf day tick
-  unfolding wordsOf packed digits num hourOf f
-  five-words =
-      five (t0 .digits ∙ omega arith)
-      (word-of-pairs day (hourOf tick) (s1 .digits) (s2 .digits) tens-and-units (t2 .digits))
-      (word-of-pairs (minuteOf tick) (secondOf tick) (s3 .digits) (s4 .digits) minute second)
-      (word-of-pairs (f / 100000) (f / 1000) (s5 .digits) (s6 .digits) (t5 .digits ∙ ap (λ (x : ℕ). num 16 (D (x / 100000))) below-second) (t6 .digits ∙ pair-of f (s5 .rest) 1000 (lit< tt) left5))
-      (word-of-pairs (f / 10) (f % 10 * 10) (s7 .digits) (s8 .digits) (t7 .digits ∙ pair-of f (s6 .rest) 10 (lit< tt) left6) (t8 .digits ∙ ap (λ (x : ℕ). num 16 (D x)) (div-one (s7 .rest * 10) ∙ ap (λ (x : ℕ). x * 10) left7)))
-      ∙ sym (ap (packed 16 4 5) (pairs day tick h))
+pub five-words : (day tick : ℕ) → day < 1000 → (ns : List ℕ) → ns ≡ pairsOf day tick → {a b c d e : ℕ} →
+    a ≡ wordAt ns 0 → b ≡ wordAt ns 2 → c ≡ wordAt ns 4 → d ≡ wordAt ns 6 → e ≡ wordAt ns 8 → a ∷ b ∷ c ∷ d ∷ e ∷ [] ≡ wordsOf day tick
+five-words day tick h ns e p q r s t = cc (p, q, r, s, t, words-of-pairs day tick h ns e)
 
 -- What reading tests.
 

@@ -1,91 +1,117 @@
--- `words::pack` meets its contract: nine pairs taken one after the other are the words, by `five-words`.
+-- `words::pack` meets its contract: ten pairs, and the word of each two of them, by `five-words`.
 -- Assumes nothing.
-use Rattle.wire.proofs.words.Laws.{five-words}
+use lib.Dec.{lit<}
 use borrow.Author.Needs.{needs}
+use Rattle.wire.proofs.words.Laws.{two-below, five-words}
 use Rattle.wire.proofs.words.pack.Statement.{statement}
 use Rattle.wire.proofs.words.pack.Tie as tie
 
-pair-requires : tie.Need-pair-requires
-pair-requires c κs = search needs
+pair-table-requires : tie.Need-pair-table-requires
+pair-table-requires c κs = search needs
 
-pair-requires-2 : tie.Need-pair-requires-2
-pair-requires-2 c κs = search needs
+count-pairs-requires : tie.Need-count-pairs-requires
+count-pairs-requires c κs = search needs
 
-pair-requires-3 : tie.Need-pair-requires-3
-pair-requires-3 c κs = search needs
+slice-aggregate-word : tie.Need-slice-aggregate-word
+slice-aggregate-word c = search needs
 
-pair-requires-4 : tie.Need-pair-requires-4
-pair-requires-4 c κs = search needs
+array-read-word : tie.Need-array-read-word
+array-read-word c = search needs
 
-pair-requires-5 : tie.Need-pair-requires-5
-pair-requires-5 c κs = search needs
+array-read-word-2 : tie.Need-array-read-word-2
+array-read-word-2 c = search needs
 
-pair-requires-6 : tie.Need-pair-requires-6
-pair-requires-6 c κs = search needs
+word-requires : tie.Need-word-requires
+word-requires c κs =
+    let n = c .before in
+    two-below (n .before .pair-table .ensures) _ _ (n .before .before .pre .1) _ (n .count-pairs .ensures) _ _ (lit< tt) (lit< tt)
 
-pair-requires-7 : tie.Need-pair-requires-7
-pair-requires-7 c κs = search needs
+slice-aggregate-word-2 : tie.Need-slice-aggregate-word-2
+slice-aggregate-word-2 c = search needs
 
-pair-requires-8 : tie.Need-pair-requires-8
-pair-requires-8 c κs = search needs
+array-read-word-3 : tie.Need-array-read-word-3
+array-read-word-3 c = search needs
 
-mul-pair : tie.Need-mul-pair
-mul-pair c = search needs
+array-read-word-4 : tie.Need-array-read-word-4
+array-read-word-4 c = search needs
 
-pair-requires-9 : tie.Need-pair-requires-9
-pair-requires-9 c κs = search needs
+word-requires-2 : tie.Need-word-requires-2
+word-requires-2 c κs =
+    let n = c .before .before .before in
+    two-below (n .before .pair-table .ensures) _ _ (n .before .before .pre .1) _ (n .count-pairs .ensures) _ _ (lit< tt) (lit< tt)
 
-mul-t13 : tie.Need-mul-t13
-mul-t13 c = search needs
+slice-aggregate-word-3 : tie.Need-slice-aggregate-word-3
+slice-aggregate-word-3 c = search needs
 
-add-t14 : tie.Need-add-t14
-add-t14 c = search needs
+array-read-word-5 : tie.Need-array-read-word-5
+array-read-word-5 c = search needs
 
-mul-t15 : tie.Need-mul-t15
-mul-t15 c = search needs
+array-read-word-6 : tie.Need-array-read-word-6
+array-read-word-6 c = search needs
 
-add-t16 : tie.Need-add-t16
-add-t16 c = search needs
+word-requires-3 : tie.Need-word-requires-3
+word-requires-3 c κs =
+    let n = c .before .before .before .before .before in
+    two-below (n .before .pair-table .ensures) _ _ (n .before .before .pre .1) _ (n .count-pairs .ensures) _ _ (lit< tt) (lit< tt)
 
-mul-t17 : tie.Need-mul-t17
-mul-t17 c = search needs
+slice-aggregate-word-4 : tie.Need-slice-aggregate-word-4
+slice-aggregate-word-4 c = search needs
 
-add-t18 : tie.Need-add-t18
-add-t18 c = search needs
+array-read-word-7 : tie.Need-array-read-word-7
+array-read-word-7 c = search needs
 
-mul-t19 : tie.Need-mul-t19
-mul-t19 c = search needs
+array-read-word-8 : tie.Need-array-read-word-8
+array-read-word-8 c = search needs
 
-add-t20 : tie.Need-add-t20
-add-t20 c = search needs
+word-requires-4 : tie.Need-word-requires-4
+word-requires-4 c κs =
+    let n = c .before .before .before .before .before .before .before in
+    two-below (n .before .pair-table .ensures) _ _ (n .before .before .pre .1) _ (n .count-pairs .ensures) _ _ (lit< tt) (lit< tt)
+
+slice-aggregate-word-5 : tie.Need-slice-aggregate-word-5
+slice-aggregate-word-5 c = search needs
+
+array-read-word-9 : tie.Need-array-read-word-9
+array-read-word-9 c = search needs
+
+array-read-word-10 : tie.Need-array-read-word-10
+array-read-word-10 c = search needs
+
+word-requires-5 : tie.Need-word-requires-5
+word-requires-5 c κs =
+    let n = c .before .before .before .before .before .before .before .before .before in
+    two-below (n .before .pair-table .ensures) _ _ (n .before .before .pre .1) _ (n .count-pairs .ensures) _ _ (lit< tt) (lit< tt)
 
 returns : tie.Need-returns
 returns c =
-    let q = c .before .before .before .before .before .before .before .before in
-    let p = q .before .before in
-    let s = p .before .before .before .before .before .before .before .before in
-    five-words (s .args .day) (s .args .tick) (s .pre .0) (p .before .before .before .before .before .before .before .pair .ensures) (p .before .before .before .before .before .before .pair2 .ensures) (p .before .before .before .before .before .pair3 .ensures) (p .before .before .before .before .pair4 .ensures) (p .before .before .before .pair5 .ensures) (p .before .before .pair6 .ensures) (p .before .pair7 .ensures) (p .pair8 .ensures) (q .pair9 .ensures)
+    let n = c .before .before .before .before .before .before .before .before .before .before in
+    let a = n .before .before in
+    five-words (a .args .day) (a .args .tick) (a .pre .0) (n .count-pairs .result) (n .count-pairs .ensures) (c .before .before .before .before .before .before .before .before .word .ensures) (c .before .before .before .before .before .before .word2 .ensures) (c .before .before .before .before .word3 .ensures) (c .before .before .word4 .ensures) (c .word5 .ensures)
 
 pub pack-spec : {M : Type 1} → statement M
 pack-spec =
     tie.close
     (tie.spec
-    pair-requires
-    pair-requires-2
-    pair-requires-3
-    pair-requires-4
-    pair-requires-5
-    pair-requires-6
-    pair-requires-7
-    pair-requires-8
-    mul-pair
-    pair-requires-9
-    mul-t13
-    add-t14
-    mul-t15
-    add-t16
-    mul-t17
-    add-t18
-    mul-t19
-    add-t20
+    pair-table-requires
+    count-pairs-requires
+    slice-aggregate-word
+    array-read-word
+    array-read-word-2
+    word-requires
+    slice-aggregate-word-2
+    array-read-word-3
+    array-read-word-4
+    word-requires-2
+    slice-aggregate-word-3
+    array-read-word-5
+    array-read-word-6
+    word-requires-3
+    slice-aggregate-word-4
+    array-read-word-7
+    array-read-word-8
+    word-requires-4
+    slice-aggregate-word-5
+    array-read-word-9
+    array-read-word-10
+    word-requires-5
     returns)
