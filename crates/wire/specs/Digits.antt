@@ -50,5 +50,5 @@ pub record Taken (x : ℕ) (r : Counted) : Type 0 where
 
 -- a table of the two decimal digits of each number below a hundred, four bits to a digit
 pub record Pairs (table : List ℕ) : Type 0 where
-  pub all : length table ≡ 100
+  pub hundred : length table ≡ 100
   pub rule : (n : ℕ) → n < 100 → getD table n 0 ≡ num 16 (digits 10 2 n)

@@ -5,7 +5,7 @@ use mathlib.Core.Path.{_≡_, refl, sym, _∙_, ap, ap₂}
 use mathlib.Core.List.{List, [], _∷_, _++_, append-assoc}
 use mathlib.Core.Bool.{Bool, true, false, _&&_, _||_}
 use mathlib.Core.Logic.{_⊎_, inl, inr, ⊎-elim}
-use native.Mathlib.Nat.{pow-zero, pow-suc, mul-comm, mul-assoc, div-one, mod-one, mod-lt, mod-eq-of-lt, div-add-mod', div-div-eq-div-mul, mul-add-div-right, mul-add-mod-self-right, one-le-pow, suc-add, add-comm, add-mul, add-assoc, zero-mul, suc-mul}
+use native.Mathlib.Nat.{pow-zero, pow-suc, mul-comm, mul-assoc, mod-one, mod-lt, mod-eq-of-lt, div-add-mod', div-div-eq-div-mul, mul-add-div-right, mul-add-mod-self-right, one-le-pow, suc-add, add-comm, add-mul, add-assoc, zero-mul, suc-mul}
 use native.Mathlib.Omega.{arith}
 use lib.Arith.{digits-div, digits-mod, digits-lt, mod-mul}
 use lib.Pow.{pow-add}

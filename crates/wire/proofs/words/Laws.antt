@@ -13,7 +13,7 @@ use borrow.Author.Tests.{lt-ltb, le-leb, ltb-true, ltb-false, leb-true}
 use Rattle.wire.specs.Digits.{digits, num, below, packed, unpacked, Pairs}
 use Rattle.wire.specs.Time.{ticksOfDay, hourOf, minuteOf, secondOf, fractionOf, tickAt}
 use Rattle.wire.specs.Words.{timeDigits, pairsOf, wordsOf, wordsOrZero, writable, decimal, field, dayIn, hourIn, minuteIn, secondIn, fractionIn, tickIn, inRange, digitsRefusal, readDigits, timeRead}
-use Rattle.wire.proofs.digits.Laws.{and-left, and-right, and-assoc, and-true, below-at, below-both, below-append, below-more, digits-below, num-below, mod-div, mod-mod-mul, digits-split, digits-mod-pow, digits-of-digits, unpacked-append, num-append, written, packed-length}
+use Rattle.wire.proofs.digits.Laws.{and-left, and-right, and-assoc, and-true, below-at, below-both, below-append, below-more, digits-below, num-below, mod-div, digits-split, digits-mod-pow, digits-of-digits, unpacked-append, num-append, written, packed-length}
 
 -- what `writable` tests
 pub writable-day : (day tick : ℕ) → writable day tick ≡ true → (1 ≤ day) × (day ≤ 366)

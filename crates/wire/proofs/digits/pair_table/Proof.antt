@@ -1,6 +1,6 @@
 -- `digits::pair_table` meets its contract: one computed test over the whole table.
 -- Assumes nothing.
-use Prim.Native.Nat.{ℕ, _<_}
+use Prim.Native.Nat.{ℕ}
 use mathlib.Core.Path.{_≡_, refl}
 use mathlib.Core.Bool.{Bool, true}
 use mathlib.Core.List.{List}
@@ -17,7 +17,7 @@ right n pair = eqb pair (num 16 (digits 10 2 n))
 
 -- the test gives the rule at each number
 rule : (table : List ℕ) → length table ≡ 100 → all right 0 table ≡ true → Pairs table
-rule table l h = record { all = l; rule = λ n p. eqb-true (getD table n 0) (num 16 (digits 10 2 n)) (each right table h n (rw l p)) }
+rule table l h = record { hundred = l; rule = λ n p. eqb-true (getD table n 0) (num 16 (digits 10 2 n)) (each right table h n (rw l p)) }
 
 returns : tie.Need-returns
 unfolding digits num
