@@ -1,4 +1,4 @@
-"""How a script is written, and what the page says of each of its lines: used by refusals.py, registers.py and waits.py.
+"""How a script is written, and what the page says of each of its lines: used by refusals.py, registers.py, waits.py and times.py.
 
 A line is what is to be said, a bar, and a call: a letter and decimal numbers. A line with no call is only said. Some calls only change the card, and say nothing:
 

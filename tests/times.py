@@ -3,9 +3,8 @@
 
     python3 tests/times.py            from the root of the repository
 
-Every day of the year, at its first and its last tick; and every value of each pair of digits of the time of day, and of its last digit, with all digits in front of it
-at their least or at their most, and all digits behind it likewise: so each unit is met on its first tick, on the tick before it, and where most of it has gone by. How a line is
-written, and the words of a time, are in script.py.
+Every day of the year, at its first and its last tick; every value of each pair of digits of the time of day, and of its last digit, with all digits in front of it at their
+least or at their most, and all digits behind it likewise; and a few days and ticks outside the ranges. How a line is written, and the words of a time, are in script.py.
 """
 from script import DAY, Script, write_words
 

@@ -39,16 +39,16 @@ unpacked b k (w ∷ ws) = digits b k w ++ unpacked b k ws
 
 -- WITHIN THE CRATE
 
--- how many parts make one unit
-abbrev pub parts : ℕ
-parts = 2 ^ 47
+-- how many parts make a unit
+abbrev pub partsInUnit : ℕ
+partsInUnit = 2 ^ 47
 
--- x parts: so many whole units, and the rest is below one
+-- x parts: the whole units, and the parts that are left
 pub record Taken (x : ℕ) (r : Counted) : Type 0 where
-  pub sum : x ≡ r .count * parts + r .rest
-  pub rest : r .rest < parts
+  pub count : r .count ≡ x / partsInUnit
+  pub rest : r .rest ≡ x % partsInUnit
 
 -- a table of the two decimal digits of each number below a hundred, four bits to a digit
-pub record Pairs (table : List ℕ) : Type 0 where
+pub record PairTable (table : List ℕ) : Type 0 where
   pub hundred : length table ≡ 100
   pub rule : (n : ℕ) → n < 100 → getD table n 0 ≡ num 16 (digits 10 2 n)

@@ -90,8 +90,8 @@ readWords ws = readDigits (unpacked 16 4 ws)
 -- WITHIN THE CRATE
 
 -- the whole seconds of a tick of day
-abbrev pub secondsIn : ℕ → ℕ
-secondsIn tick = tick / 10000000
+abbrev pub wholeSeconds : ℕ → ℕ
+wholeSeconds tick = tick / 10000000
 
 -- the digits of the table two at a time, as numbers: digits of base 100
 unfoldable pub pairsOf : ℕ → ℕ → List ℕ

@@ -1,16 +1,16 @@
 // Decimal digits, two at a time: from a table, and read back. Every digit has four bits.
 //
-// No division leads from a number to its digits. It is told in parts of a unit, 2^47 to one, so a shift gives the whole units; and the rest, times a hundred, is told in
-// parts of a hundredth of that unit.
+// No division leads from a number to its digits. It is given in parts of a unit, 2^47 to one: a shift gives the whole units, and the rest times sixty, or a hundred, is
+// given in parts of a unit that much smaller.
 ghost use mathlib.Core.Path.{_≡_};
 ghost use Prim.Native.Nat.{_<_, _≤_};
-ghost use Rattle.wire.specs.Digits.{digits, num, Taken, Pairs};
+ghost use Rattle.wire.specs.Digits.{digits, num, Taken, PairTable};
 
 // How many parts make a unit.
-const PARTS: u64 = 0x8000_0000_0000;
+const PARTS_IN_UNIT: u64 = 0x8000_0000_0000;
 
-// So many whole units, and the parts that are left.
-pub struct Counted {
+// Whole units, and the parts that are left.
+pub(crate) struct Counted {
     pub count: u64,
     pub rest: u64,
 }
@@ -22,7 +22,7 @@ pub(crate) fn split(x: u64) -> Counted
     let count = x >> 47;
     Counted {
         count: count,
-        rest: x - count * PARTS,
+        rest: x - count * PARTS_IN_UNIT,
     }
 }
 
@@ -34,9 +34,9 @@ pub(crate) fn two(b: u16) -> u16
     b / 16 * 10 + b % 16
 }
 
-// The table of pairs. Whoever asks for it has all of it laid out, so it is asked for once and read often.
+// The table of pairs. Each call lays out a copy of it, so one is asked for and read often.
 pub(crate) fn pair_table() -> [u8; 100]
-    ensures { λ r. ⌜ Pairs r ⌝ }
+    ensures { λ r. ⌜ PairTable r ⌝ }
 {
     PAIRS
 }

@@ -10,9 +10,9 @@ ghost use mathlib.Core.Path.{_≡_};
 ghost use mathlib.Core.List.{[], _∷_, _++_};
 ghost use Prim.Native.Nat.{_<_};
 ghost use lib.ListN.{take};
-ghost use Rattle.wire.specs.Digits.{digits, num, below, unpacked, Pairs};
+ghost use Rattle.wire.specs.Digits.{digits, num, below, unpacked, PairTable};
 ghost use Rattle.wire.specs.Time.{ticksOfDay};
-ghost use Rattle.wire.specs.Words.{secondsIn, pairsOf, wordsOf, writable, wordsOrZero, writeWords, decimal, inRange, readWords};
+ghost use Rattle.wire.specs.Words.{wholeSeconds, pairsOf, wordsOf, writable, wordsOrZero, writeWords, decimal, inRange, readWords};
 
 // A day in parts of a hundred days, rounded up, as the next three are, so that no whole unit is counted short.
 const DAY_IN_HUNDREDS: u64 = 1_407_374_883_554;
@@ -23,8 +23,8 @@ const SECOND_IN_HOURS: u64 = 39_093_746_766;
 // A tenth of a tick in parts of a hundredth of a second.
 const TENTH_IN_HUNDREDTHS: u64 = 140_737_489;
 
-// 128 ticks in parts of a second.
-const TICKS_IN_SECONDS: u64 = 1_801_439_851;
+// A block of 128 ticks in parts of a second.
+const BLOCK_IN_SECONDS: u64 = 1_801_439_851;
 
 // What words are written as: the number, and five zero words beside a refusal.
 pub struct WordsWritten {
@@ -51,20 +51,21 @@ fn is_writable(day: u16, tick: u64) -> bool
     tick < TICKS_OF_DAY
 }
 
-// The whole seconds in a tick of day. 78,125 times 128 ticks make one, so the lowest seven bits decide nothing.
-fn seconds_in(tick: u64) -> u64
+// The whole seconds in a tick of day, counted by blocks of 128 ticks: 78,125 of them make a second, so what is less than a block decides nothing.
+fn whole_seconds(tick: u64) -> u64
     requires { ⌜ tick < ticksOfDay ⌝ }
-    ensures { λ r. ⌜ r ≡ secondsIn tick ⌝ }
+    ensures { λ r. ⌜ r ≡ wholeSeconds tick ⌝ }
 {
-    split((tick >> 7) * TICKS_IN_SECONDS).count
+    split((tick >> 7) * BLOCK_IN_SECONDS).count
 }
 
-// The pairs of digits of a time as numbers, from the first, which is spare. The fraction is in tenths of a tick, since its last digit is spare too.
+// The ten pairs of digits of a time, as numbers; the first pair is spare. The day, the second of the day and the fraction of the second are each split from the highest pair
+// down. The fraction is in tenths of a tick, since its last digit is spare too.
 fn count_pairs(day: u64, tick: u64) -> [u64; 10]
     requires { ⌜ (day < 1000) × (tick < ticksOfDay) ⌝ }
     ensures { λ r. ⌜ r ≡ pairsOf day tick ⌝ }
 {
-    let whole = seconds_in(tick);
+    let whole = whole_seconds(tick);
     let fraction = (tick - whole * 10_000_000) * 10;
     let hundreds = split(day * DAY_IN_HUNDREDS);
     let days = split(hundreds.rest * 100);
@@ -72,9 +73,9 @@ fn count_pairs(day: u64, tick: u64) -> [u64; 10]
     let minutes = split(hours.rest * 60);
     let seconds = split(minutes.rest * 60);
     let hundredths = split(fraction * TENTH_IN_HUNDREDTHS);
-    let tenths = split(hundredths.rest * 100);
-    let micros = split(tenths.rest * 100);
-    let last = split(micros.rest * 100);
+    let ten_thousandths = split(hundredths.rest * 100);
+    let millionths = split(ten_thousandths.rest * 100);
+    let last = split(millionths.rest * 100);
     [
         0,
         hundreds.count,
@@ -83,15 +84,15 @@ fn count_pairs(day: u64, tick: u64) -> [u64; 10]
         minutes.count,
         seconds.count,
         hundredths.count,
-        tenths.count,
-        micros.count,
+        ten_thousandths.count,
+        millionths.count,
         last.count,
     ]
 }
 
 // The word of two pairs of digits.
 fn word(table: &[u8], high: u64, low: u64) -> u16
-    requires { ⌜ Pairs (now table) × (high < 100) × (low < 100) ⌝ }
+    requires { ⌜ PairTable (now table) × (high < 100) × (low < 100) ⌝ }
     ensures { λ r. ⌜ r ≡ num 16 (digits 10 2 high ++ digits 10 2 low) ⌝ }
 {
     (table[high as usize] as u16) * 256 + (table[low as usize] as u16)

@@ -10,7 +10,7 @@ use lib.Dec.{leb, ltb, eqb, lit<, lit≤, leb·suc-suc, leb·suc-zero, eqb·suc-
 use lib.ListN.{length, take, drop, getD}
 use lib.Seq.{ext-getD}
 use borrow.Author.Tests.{lt-ltb, le-leb, ltb-true, ltb-false, leb-true}
-use Rattle.wire.specs.Digits.{digits, num, below, packed, unpacked, Pairs}
+use Rattle.wire.specs.Digits.{digits, num, below, packed, unpacked}
 use Rattle.wire.specs.Time.{ticksOfDay, hourOf, minuteOf, secondOf, fractionOf, tickAt}
 use Rattle.wire.specs.Words.{timeDigits, pairsOf, wordsOf, wordsOrZero, writable, decimal, field, dayIn, hourIn, minuteIn, secondIn, fractionIn, tickIn, inRange, digitsRefusal, readDigits, timeRead}
 use Rattle.wire.proofs.digits.Laws.{and-left, and-right, and-assoc, and-true, below-at, below-both, below-append, below-more, digits-below, num-below, mod-div, digits-split, digits-mod-pow, digits-of-digits, unpacked-append, num-append, written, packed-length}
@@ -69,13 +69,9 @@ pairs-below day tick h =
     below-append 100 (digits 100 2 day) (hourOf tick ∷ minuteOf tick ∷ secondOf tick ∷ digits 100 4 (fractionOf tick * 10)) (digits-below 100 (lit< tt) 2 day)
     (simp (lt-ltb (hourOf tick) 100 (omega arith), lt-ltb (minuteOf tick) 100 (omega arith), lt-ltb (secondOf tick) 100 (omega arith), digits-below 100 (lit< tt) 4 (fractionOf tick * 10)))
 
--- so the table has the digits of any two of them
-pub two-below : {table : List ℕ} → Pairs table → (day tick : ℕ) → tick < ticksOfDay → (ns : List ℕ) → ns ≡ pairsOf day tick → (i j : ℕ) → i < 10 → j < 10 →
-    Pairs table × (getD ns i 0 < 100) × (getD ns j 0 < 100)
+pub pair-below : (day tick : ℕ) → tick < ticksOfDay → (ns : List ℕ) → ns ≡ pairsOf day tick → (i : ℕ) → i < 10 → getD ns i 0 < 100
 unfolding pairsOf digits
-two-below p day tick h ns e i j k l =
-    let b = below-at 100 (pairsOf day tick) (pairs-below day tick h) in
-    (p, rw e (b i k), rw e (b j l))
+pair-below day tick h ns e i l = rw e (below-at 100 (pairsOf day tick) (pairs-below day tick h) i l)
 
 -- the two digits of a number have eight bits
 pub pair-small : (n : ℕ) → num 16 (digits 10 2 n) < 256

@@ -1,4 +1,4 @@
--- The pairs of a time, counted one after the other, each in what the one before it left. By the laws of parts.
+-- The pairs of a time, counted by parts: its day, the second of the day and the fraction of the second, each from the highest pair down. By the laws of parts.
 -- Assumes nothing.
 use Prim.Native.Nat.{ℕ, _-_, _*_, _/_, _%_, _<_}
 use mathlib.Core.Path.{_≡_, refl, sym, _∙_, ap, ap₂, subst}
@@ -9,10 +9,10 @@ use lib.Dec.{lit<}
 use Rattle.wire.specs.Digits.{digits, Taken}
 use Rattle.wire.specs.declared.digits.Counted.{Counted}
 use Rattle.wire.specs.Time.{ticksOfDay, hourOf, minuteOf, secondOf, fractionOf}
-use Rattle.wire.specs.Words.{secondsIn, pairsOf}
-use Rattle.wire.proofs.digits.Parts.{Told, tell, counted, left, finer, digit, next}
+use Rattle.wire.specs.Words.{wholeSeconds, pairsOf}
+use Rattle.wire.proofs.digits.Parts.{Gives, rounded-up, counted, left, finer, digit, next}
 
--- what one of the smaller is in parts of the larger
+-- the code's factors: what one of the smaller is in parts of the larger
 abbrev dayInHundreds : ℕ
 dayInHundreds = 1407374883554
 
@@ -22,69 +22,86 @@ secondInHours = 39093746766
 abbrev tenthInHundredths : ℕ
 tenthInHundredths = 140737489
 
--- n things are all told, where n is below f units
-all-told : {x : ℕ} (n f u : ℕ) → n < f * u → Told x n u → Told x (n % (f * u)) u
-all-told {x} n f u h t = subst (λ (m : ℕ). Told x m u) (sym (mod-eq-of-lt h)) t
+abbrev blockInSeconds : ℕ
+blockInSeconds = 1801439851
+
+-- where n is below f units, all of it is given
+all-given : {x : ℕ} (n f u : ℕ) → n < f * u → Gives x n u → Gives x (n % (f * u)) u
+all-given {x} n f u h t = subst (λ (m : ℕ). Gives x m u) (sym (mod-eq-of-lt h)) t
+
+-- the whole seconds
+pub seconds-in-blocks : (tick : ℕ) → tick < ticksOfDay → {a : Counted} → Taken (tick / 128 * blockInSeconds) a → a .count ≡ wholeSeconds tick
+seconds-in-blocks tick h s =
+    counted (lit< tt) (rounded-up (tick / 128) blockInSeconds 78125 4047 refl (omega arith)) s ∙ div-div-eq-div-mul tick 128 78125
 
 -- the day
 module _ (n : ℕ) (h : n < 1000) {a b : Counted} (s : Taken (n * dayInHundreds) a) (t : Taken (a .rest * 100) b) where
-  in-hundreds : Told (n * dayInHundreds) (n % 10000) 100
-  in-hundreds = all-told n 100 100 (omega arith) (tell n dayInHundreds 100 72 refl (omega arith))
+  hundreds : Gives (n * dayInHundreds) (n % 10000) 100
+  hundreds = all-given n 100 100 (omega arith) (rounded-up n dayInHundreds 100 72 refl (omega arith))
 
-  pub day-pairs : a .count ∷ b .count ∷ [] ≡ digits 100 2 n
+  days : Gives (a .rest * 100) (n % 100) 1
+  days = next n 100 100 (lit< tt) (lit< tt) hundreds s 100 1 refl
+
+  day-pairs : a .count ∷ b .count ∷ [] ≡ digits 100 2 n
   unfolding digits
-  day-pairs =
-      cc (digit n 100 100 (lit< tt) (lit< tt) in-hundreds s, digit n 100 1 (lit< tt) (lit< tt) (next n 100 100 (lit< tt) (lit< tt) in-hundreds s 100 1 refl) t)
+  day-pairs = cc (digit n 100 100 (lit< tt) (lit< tt) hundreds s, digit n 100 1 (lit< tt) (lit< tt) days t)
 
 -- the second of the day
 module _ (n : ℕ) (h : n < 86400) {a b c : Counted} (s : Taken (n * secondInHours) a) (t : Taken (a .rest * 60) b) (u : Taken (b .rest * 60) c) where
-  in-hours : Told (n * secondInHours) n 3600
-  in-hours = tell n secondInHours 3600 2272 refl (omega arith)
+  hours : Gives (n * secondInHours) n 3600
+  hours = rounded-up n secondInHours 3600 2272 refl (omega arith)
 
-  in-minutes : Told (a .rest * 60) (n % 3600) 60
-  in-minutes = finer 60 60 (left (lit< tt) in-hours s)
+  minutes : Gives (a .rest * 60) (n % 3600) 60
+  minutes = finer 60 60 (left (lit< tt) hours s)
 
-  pub hour : a .count ≡ n / 3600
-  hour = counted (lit< tt) in-hours s
+  seconds : Gives (b .rest * 60) (n % 60) 1
+  seconds = next n 60 60 (lit< tt) (lit< tt) minutes t 60 1 refl
 
-  pub minute : b .count ≡ n / 60 % 60
-  minute = digit n 60 60 (lit< tt) (lit< tt) in-minutes t
+  hour : a .count ≡ n / 3600
+  hour = counted (lit< tt) hours s
 
-  pub second : c .count ≡ n % 60
-  second = digit n 60 1 (lit< tt) (lit< tt) (next n 60 60 (lit< tt) (lit< tt) in-minutes t 60 1 refl) u ∙ ap (λ (m : ℕ). m % 60) (div-one n)
+  minute : b .count ≡ n / 60 % 60
+  minute = digit n 60 60 (lit< tt) (lit< tt) minutes t
+
+  second : c .count ≡ n % 60
+  second = digit n 60 1 (lit< tt) (lit< tt) seconds u ∙ ap (λ (m : ℕ). m % 60) (div-one n)
 
 -- the fraction of the second, and a spare digit behind it
 module _ (n : ℕ) (h : n < 100000000) {a b c d : Counted}
     (s : Taken (n * tenthInHundredths) a) (t : Taken (a .rest * 100) b) (u : Taken (b .rest * 100) c) (v : Taken (c .rest * 100) d) where
-  first : Told (n * tenthInHundredths) (n % 100000000) 1000000
-  first = all-told n 100 1000000 h (tell n tenthInHundredths 1000000 644672 refl (omega arith))
+  hundredths : Gives (n * tenthInHundredths) (n % 100000000) 1000000
+  hundredths = all-given n 100 1000000 h (rounded-up n tenthInHundredths 1000000 644672 refl (omega arith))
 
-  second-pair : Told (a .rest * 100) (n % 1000000) 10000
-  second-pair = next n 100 1000000 (lit< tt) (lit< tt) first s 100 10000 refl
+  ten-thousandths : Gives (a .rest * 100) (n % 1000000) 10000
+  ten-thousandths = next n 100 1000000 (lit< tt) (lit< tt) hundredths s 100 10000 refl
 
-  third : Told (b .rest * 100) (n % 10000) 100
-  third = next n 100 10000 (lit< tt) (lit< tt) second-pair t 100 100 refl
+  millionths : Gives (b .rest * 100) (n % 10000) 100
+  millionths = next n 100 10000 (lit< tt) (lit< tt) ten-thousandths t 100 100 refl
 
-  fourth : Told (c .rest * 100) (n % 100) 1
-  fourth = next n 100 100 (lit< tt) (lit< tt) third u 100 1 refl
+  last : Gives (c .rest * 100) (n % 100) 1
+  last = next n 100 100 (lit< tt) (lit< tt) millionths u 100 1 refl
 
-  pub fraction-pairs : a .count ∷ b .count ∷ c .count ∷ d .count ∷ [] ≡ digits 100 4 n
+  fraction-pairs : a .count ∷ b .count ∷ c .count ∷ d .count ∷ [] ≡ digits 100 4 n
   unfolding digits
   fraction-pairs =
-      cc (digit n 100 1000000 (lit< tt) (lit< tt) first s, digit n 100 10000 (lit< tt) (lit< tt) second-pair t, digit n 100 100 (lit< tt) (lit< tt) third u, digit n 100 1 (lit< tt) (lit< tt) fourth v)
+      cc (
+        digit n 100 1000000 (lit< tt) (lit< tt) hundredths s,
+        digit n 100 10000 (lit< tt) (lit< tt) ten-thousandths t,
+        digit n 100 100 (lit< tt) (lit< tt) millionths u,
+        digit n 100 1 (lit< tt) (lit< tt) last v,
+      )
 
 -- all of them
-pub count-pairs : (day tick whole : ℕ) → day < 1000 → tick < ticksOfDay → whole ≡ secondsIn tick → {a b c d e f g h i : Counted} →
+pub ten-pairs : (day tick whole : ℕ) → day < 1000 → tick < ticksOfDay → whole ≡ wholeSeconds tick → {a b c d e f g h i : Counted} →
     Taken (day * dayInHundreds) a → Taken (a .rest * 100) b →
     Taken (whole * secondInHours) c → Taken (c .rest * 60) d → Taken (d .rest * 60) e →
     Taken ((tick - whole * 10000000) * 10 * tenthInHundredths) f → Taken (f .rest * 100) g → Taken (g .rest * 100) h → Taken (h .rest * 100) i →
     0 ∷ a .count ∷ b .count ∷ c .count ∷ d .count ∷ e .count ∷ f .count ∷ g .count ∷ h .count ∷ i .count ∷ [] ≡ pairsOf day tick
 unfolding pairsOf hourOf minuteOf secondOf fractionOf
-count-pairs day tick whole l m w ta tb tc td te tf tg th ti =
+ten-pairs day tick whole l m w ta tb tc td te tf tg th ti =
     let fraction : (tick - whole * 10000000) * 10 ≡ tick % 10000000 * 10 = omega arith in
-    let days = day-pairs day l ta tb in
     let hours = hour whole (omega arith) tc td te ∙ ap (λ (n : ℕ). n / 3600) w ∙ div-div-eq-div-mul tick 10000000 3600 in
     let minutes = minute whole (omega arith) tc td te ∙ ap (λ (n : ℕ). n / 60 % 60) w ∙ ap (λ (n : ℕ). n % 60) (div-div-eq-div-mul tick 10000000 60) in
     let seconds = second whole (omega arith) tc td te ∙ ap (λ (n : ℕ). n % 60) w in
     let rest = fraction-pairs ((tick - whole * 10000000) * 10) (omega arith) tf tg th ti ∙ ap (digits 100 4) fraction in
-    ap₂ (λ (x y : List ℕ). 0 ∷ (x ++ y)) days (cc (hours, minutes, seconds, rest))
+    ap₂ (λ (x y : List ℕ). 0 ∷ (x ++ y)) (day-pairs day l ta tb) (cc (hours, minutes, seconds, rest))

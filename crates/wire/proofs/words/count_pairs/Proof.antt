@@ -1,12 +1,12 @@
--- `words::count_pairs` meets its contract: nine counts, by `count-pairs`.
+-- `words::count_pairs` meets its contract: nine counts, by `ten-pairs`.
 -- Assumes nothing.
 use borrow.Author.Needs.{needs}
-use Rattle.wire.proofs.words.Pairs.{count-pairs}
+use Rattle.wire.proofs.words.Pairs.{ten-pairs}
 use Rattle.wire.proofs.words.count_pairs.Statement.{statement}
 use Rattle.wire.proofs.words.count_pairs.Tie as tie
 
-seconds-in-requires : tie.Need-seconds-in-requires
-seconds-in-requires c κs = search needs
+whole-seconds-requires : tie.Need-whole-seconds-requires
+whole-seconds-requires c κs = search needs
 
 mul-fraction : tie.Need-mul-fraction
 mul-fraction c = search needs
@@ -73,17 +73,26 @@ split-requires-9 c κs = search needs
 
 returns : tie.Need-returns
 returns c =
-    let a = c .before .before .before .before .before .before .before .before .before .before .before .before .before .before .before .before in
-    count-pairs (a .args .day) (a .args .tick) (c .before .before .before .before .before .before .before .before .before .before .before .before .before .before .before .seconds-in .result) (a .pre .0) (a .pre .1) (c .before .before .before .before .before .before .before .before .before .before .before .before .before .before .before .seconds-in .ensures)
-    (c .before .before .before .before .before .before .before .before .before .before .before .before .before .before .split .ensures) (c .before .before .before .before .before .before .before .before .before .before .before .before .split2 .ensures)
-    (c .before .before .before .before .before .before .before .before .before .before .before .split3 .ensures) (c .before .before .before .before .before .before .before .before .before .split4 .ensures) (c .before .before .before .before .before .before .before .split5 .ensures)
-    (c .before .before .before .before .before .before .split6 .ensures) (c .before .before .before .before .split7 .ensures) (c .before .before .split8 .ensures) (c .split9 .ensures)
+    let h = c .before .before in
+    let g = h .before .before in
+    let f = g .before .before in
+    let e = f .before in
+    let d = e .before .before in
+    let k = d .before .before in
+    let b = k .before in
+    let a = b .before .before in
+    let w = a .before in
+    let s = w .before in
+    ten-pairs (s .args .day) (s .args .tick) (w .whole-seconds .result) (s .pre .0) (s .pre .1) (w .whole-seconds .ensures)
+    (a .split .ensures) (b .split2 .ensures)
+    (k .split3 .ensures) (d .split4 .ensures) (e .split5 .ensures)
+    (f .split6 .ensures) (g .split7 .ensures) (h .split8 .ensures) (c .split9 .ensures)
 
 pub count-pairs-spec : {M : Type 1} → statement M
 count-pairs-spec =
     tie.close
     (tie.spec
-    seconds-in-requires
+    whole-seconds-requires
     mul-fraction
     sub-fraction
     mul-fraction-2

@@ -2,7 +2,7 @@
 -- Assumes nothing.
 use lib.Dec.{lit<}
 use borrow.Author.Needs.{needs}
-use Rattle.wire.proofs.words.Laws.{two-below, five-words}
+use Rattle.wire.proofs.words.Laws.{pair-below, five-words}
 use Rattle.wire.proofs.words.pack.Statement.{statement}
 use Rattle.wire.proofs.words.pack.Tie as tie
 
@@ -24,7 +24,8 @@ array-read-word-2 c = search needs
 word-requires : tie.Need-word-requires
 word-requires c κs =
     let n = c .before in
-    two-below (n .before .pair-table .ensures) _ _ (n .before .before .pre .1) _ (n .count-pairs .ensures) _ _ (lit< tt) (lit< tt)
+    let b = pair-below _ _ (n .before .before .pre .1) _ (n .count-pairs .ensures) in
+    (n .before .pair-table .ensures, b _ (lit< tt), b _ (lit< tt))
 
 slice-aggregate-word-2 : tie.Need-slice-aggregate-word-2
 slice-aggregate-word-2 c = search needs
@@ -38,7 +39,8 @@ array-read-word-4 c = search needs
 word-requires-2 : tie.Need-word-requires-2
 word-requires-2 c κs =
     let n = c .before .before .before in
-    two-below (n .before .pair-table .ensures) _ _ (n .before .before .pre .1) _ (n .count-pairs .ensures) _ _ (lit< tt) (lit< tt)
+    let b = pair-below _ _ (n .before .before .pre .1) _ (n .count-pairs .ensures) in
+    (n .before .pair-table .ensures, b _ (lit< tt), b _ (lit< tt))
 
 slice-aggregate-word-3 : tie.Need-slice-aggregate-word-3
 slice-aggregate-word-3 c = search needs
@@ -52,7 +54,8 @@ array-read-word-6 c = search needs
 word-requires-3 : tie.Need-word-requires-3
 word-requires-3 c κs =
     let n = c .before .before .before .before .before in
-    two-below (n .before .pair-table .ensures) _ _ (n .before .before .pre .1) _ (n .count-pairs .ensures) _ _ (lit< tt) (lit< tt)
+    let b = pair-below _ _ (n .before .before .pre .1) _ (n .count-pairs .ensures) in
+    (n .before .pair-table .ensures, b _ (lit< tt), b _ (lit< tt))
 
 slice-aggregate-word-4 : tie.Need-slice-aggregate-word-4
 slice-aggregate-word-4 c = search needs
@@ -66,7 +69,8 @@ array-read-word-8 c = search needs
 word-requires-4 : tie.Need-word-requires-4
 word-requires-4 c κs =
     let n = c .before .before .before .before .before .before .before in
-    two-below (n .before .pair-table .ensures) _ _ (n .before .before .pre .1) _ (n .count-pairs .ensures) _ _ (lit< tt) (lit< tt)
+    let b = pair-below _ _ (n .before .before .pre .1) _ (n .count-pairs .ensures) in
+    (n .before .pair-table .ensures, b _ (lit< tt), b _ (lit< tt))
 
 slice-aggregate-word-5 : tie.Need-slice-aggregate-word-5
 slice-aggregate-word-5 c = search needs
@@ -80,13 +84,19 @@ array-read-word-10 c = search needs
 word-requires-5 : tie.Need-word-requires-5
 word-requires-5 c κs =
     let n = c .before .before .before .before .before .before .before .before .before in
-    two-below (n .before .pair-table .ensures) _ _ (n .before .before .pre .1) _ (n .count-pairs .ensures) _ _ (lit< tt) (lit< tt)
+    let b = pair-below _ _ (n .before .before .pre .1) _ (n .count-pairs .ensures) in
+    (n .before .pair-table .ensures, b _ (lit< tt), b _ (lit< tt))
 
 returns : tie.Need-returns
 returns c =
-    let n = c .before .before .before .before .before .before .before .before .before .before in
-    let a = n .before .before in
-    five-words (a .args .day) (a .args .tick) (a .pre .0) (n .count-pairs .result) (n .count-pairs .ensures) (c .before .before .before .before .before .before .before .before .word .ensures) (c .before .before .before .before .before .before .word2 .ensures) (c .before .before .before .before .word3 .ensures) (c .before .before .word4 .ensures) (c .word5 .ensures)
+    let d = c .before .before in
+    let e = d .before .before in
+    let b = e .before .before in
+    let a = b .before .before in
+    let n = a .before .before in
+    let s = n .before .before in
+    five-words (s .args .day) (s .args .tick) (s .pre .0) (n .count-pairs .result) (n .count-pairs .ensures)
+    (a .word .ensures) (b .word2 .ensures) (e .word3 .ensures) (d .word4 .ensures) (c .word5 .ensures)
 
 pub pack-spec : {M : Type 1} → statement M
 pack-spec =

@@ -5,13 +5,13 @@ use mathlib.Core.List.{List}
 use native.Mathlib.Omega.{arith}
 use lib.ListN.{getD}
 use borrow.Author.Needs.{needs}
-use Rattle.wire.specs.Digits.{Pairs}
+use Rattle.wire.specs.Digits.{PairTable}
 use Rattle.wire.proofs.words.Laws.{pair-small, word-of-pairs}
 use Rattle.wire.proofs.words.word.Statement.{statement}
 use Rattle.wire.proofs.words.word.Tie as tie
 
 -- an entry has eight bits
-entry : (table : List ℕ) → Pairs table → (n : ℕ) → n < 100 → getD table n 0 < 256
+entry : (table : List ℕ) → PairTable table → (n : ℕ) → n < 100 → getD table n 0 < 256
 entry table p n h = rw (p .rule n h) (pair-small n)
 
 shared-slice-read-result : tie.Need-shared-slice-read-result
