@@ -3,8 +3,9 @@
 
     python3 tests/times.py            from the root of the repository
 
-Every day of the year, at its first and its last tick; every value of each pair of digits of the time of day, and of its last digit, with all digits in front of it at their
-least or at their most, and all digits behind it likewise; and a few days and ticks outside the ranges. How a line is written, and the words of a time, are in script.py.
+Every day of the year, at its first and its last tick; every value of each pair of digits of the time of day, and of its last digit, with all digits of the time of day in
+front of it at their least or at their most, and all behind it likewise, the day changing with each; and a few days and ticks outside the ranges. How a line is written,
+and the words of a time, are in script.py.
 """
 from script import DAY, Script, write_words
 

@@ -39,14 +39,14 @@ unpacked b k (w ∷ ws) = digits b k w ++ unpacked b k ws
 
 -- WITHIN THE CRATE
 
--- how many parts make a unit
-abbrev pub partsInUnit : ℕ
-partsInUnit = 2 ^ 47
+-- how many shares make a unit
+abbrev pub sharesInUnit : ℕ
+sharesInUnit = 2 ^ 47
 
--- x parts: the whole units, and the parts that are left
-pub record Taken (x : ℕ) (r : Counted) : Type 0 where
-  pub count : r .count ≡ x / partsInUnit
-  pub rest : r .rest ≡ x % partsInUnit
+-- x shares: the whole units, and the shares that are left
+pub record Splits (x : ℕ) (r : Counted) : Type 0 where
+  pub count : r .count ≡ x / sharesInUnit
+  pub rest : r .rest ≡ x % sharesInUnit
 
 -- a table of the two decimal digits of each number below a hundred, four bits to a digit
 pub record PairTable (table : List ℕ) : Type 0 where

@@ -93,6 +93,6 @@ readWords ws = readDigits (unpacked 16 4 ws)
 abbrev pub wholeSeconds : ℕ → ℕ
 wholeSeconds tick = tick / 10000000
 
--- the digits of the table two at a time, as numbers: digits of base 100
+-- the twenty digits of a time two at a time, as numbers: digits of base 100
 unfoldable pub pairsOf : ℕ → ℕ → List ℕ
 pairsOf day tick = 0 ∷ (digits 100 2 day ++ (hourOf tick ∷ minuteOf tick ∷ secondOf tick ∷ digits 100 4 (fractionOf tick * 10)))

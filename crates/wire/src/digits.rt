@@ -1,28 +1,28 @@
 // Decimal digits, two at a time: from a table, and read back. Every digit has four bits.
 //
-// No division leads from a number to its digits. It is given in parts of a unit, 2^47 to one: a shift gives the whole units, and the rest times sixty, or a hundred, is
-// given in parts of a unit that much smaller.
+// No division leads from a number to its digits. It is given in shares of a unit, 2^47 to one: a shift gives the whole units, and the rest times sixty, or a hundred, is
+// given in shares of a unit that much smaller.
 ghost use mathlib.Core.Path.{_≡_};
 ghost use Prim.Native.Nat.{_<_, _≤_};
-ghost use Rattle.wire.specs.Digits.{digits, num, Taken, PairTable};
+ghost use Rattle.wire.specs.Digits.{digits, num, Splits, PairTable};
 
-// How many parts make a unit.
-const PARTS_IN_UNIT: u64 = 0x8000_0000_0000;
+// How many shares make a unit.
+const SHARES_IN_UNIT: u64 = 0x8000_0000_0000;
 
-// Whole units, and the parts that are left.
+// Whole units, and the shares that are left.
 pub(crate) struct Counted {
     pub count: u64,
     pub rest: u64,
 }
 
-// The whole units in x parts.
+// The whole units in x shares.
 pub(crate) fn split(x: u64) -> Counted
-    ensures { λ r. ⌜ Taken x r ⌝ }
+    ensures { λ r. ⌜ Splits x r ⌝ }
 {
     let count = x >> 47;
     Counted {
         count: count,
-        rest: x - count * PARTS_IN_UNIT,
+        rest: x - count * SHARES_IN_UNIT,
     }
 }
 
@@ -34,7 +34,7 @@ pub(crate) fn two(b: u16) -> u16
     b / 16 * 10 + b % 16
 }
 
-// The table of pairs. Each call lays out a copy of it, so one is asked for and read often.
+// The table of pairs. Each call lays out a copy, so a caller asks once and reads it for all its pairs.
 pub(crate) fn pair_table() -> [u8; 100]
     ensures { λ r. ⌜ PairTable r ⌝ }
 {

@@ -14,16 +14,16 @@ ghost use Rattle.wire.specs.Digits.{digits, num, below, unpacked, PairTa
 ghost use Rattle.wire.specs.Time.{ticksOfDay};
 ghost use Rattle.wire.specs.Words.{wholeSeconds, pairsOf, wordsOf, writable, wordsOrZero, writeWords, decimal, inRange, readWords};
 
-// A day in parts of a hundred days, rounded up, as the next three are, so that no whole unit is counted short.
+// A day in shares of a hundred days, rounded up, as the next three are, so that no whole unit is counted short.
 const DAY_IN_HUNDREDS: u64 = 1_407_374_883_554;
 
-// A second in parts of an hour.
+// A second in shares of an hour.
 const SECOND_IN_HOURS: u64 = 39_093_746_766;
 
-// A tenth of a tick in parts of a hundredth of a second.
+// A tenth of a tick in shares of a hundredth of a second.
 const TENTH_IN_HUNDREDTHS: u64 = 140_737_489;
 
-// A block of 128 ticks in parts of a second.
+// A block of 128 ticks in shares of a second.
 const BLOCK_IN_SECONDS: u64 = 1_801_439_851;
 
 // What words are written as: the number, and five zero words beside a refusal.
@@ -66,13 +66,13 @@ fn count_pairs(day: u64, tick: u64) -> [u64; 10]
     ensures { λ r. ⌜ r ≡ pairsOf day tick ⌝ }
 {
     let whole = whole_seconds(tick);
-    let fraction = (tick - whole * 10_000_000) * 10;
+    let tenths = (tick - whole * 10_000_000) * 10;
     let hundreds = split(day * DAY_IN_HUNDREDS);
     let days = split(hundreds.rest * 100);
     let hours = split(whole * SECOND_IN_HOURS);
     let minutes = split(hours.rest * 60);
     let seconds = split(minutes.rest * 60);
-    let hundredths = split(fraction * TENTH_IN_HUNDREDTHS);
+    let hundredths = split(tenths * TENTH_IN_HUNDREDTHS);
     let ten_thousandths = split(hundredths.rest * 100);
     let millionths = split(ten_thousandths.rest * 100);
     let last = split(millionths.rest * 100);

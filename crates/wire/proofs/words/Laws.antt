@@ -38,9 +38,9 @@ writable-tick day tick e =
     ltb-true tick ticksOfDay (and-right (leb day 366) (ltb tick ticksOfDay) f)
 
 -- the third spare digit stands in front of the day's three
-with-spare : (day : ℕ) → day < 1000 → 0 ∷ digits 10 3 day ≡ digits 10 4 day
+spare-in-front : (day : ℕ) → day < 1000 → 0 ∷ digits 10 3 day ≡ digits 10 4 day
 unfolding digits
-with-spare day h =
+spare-in-front day h =
     let z : 0 ≡ day / 1000 % 10 = omega arith in
     ap (λ (x : ℕ). x ∷ digits 10 3 day) z
 
@@ -58,7 +58,7 @@ unfolding timeDigits pairsOf unpacked digits
 pairs day tick h =
     ap₂
     (λ (l m : List ℕ). 0 ∷ 0 ∷ (l ++ (digits 10 2 (hourOf tick) ++ (digits 10 2 (minuteOf tick) ++ (digits 10 2 (secondOf tick) ++ m)))))
-    (with-spare day h ∙ sym (digits-of-digits 10 (lit< tt) 2 2 day))
+    (spare-in-front day h ∙ sym (digits-of-digits 10 (lit< tt) 2 2 day))
     (spare-behind (fractionOf tick) ∙ sym (digits-of-digits 10 (lit< tt) 2 4 (fractionOf tick * 10)))
     ∙ ap (λ (l : List ℕ). 0 ∷ 0 ∷ l) (sym (unpacked-append 10 (lit< tt) 2 (digits 100 2 day) (hourOf tick ∷ minuteOf tick ∷ secondOf tick ∷ digits 100 4 (fractionOf tick * 10))))
 

@@ -8,14 +8,14 @@ use Rattle.wire.proofs.words.count_pairs.Tie as tie
 whole-seconds-requires : tie.Need-whole-seconds-requires
 whole-seconds-requires c κs = search needs
 
-mul-fraction : tie.Need-mul-fraction
-mul-fraction c = search needs
+mul-tenths : tie.Need-mul-tenths
+mul-tenths c = search needs
 
-sub-fraction : tie.Need-sub-fraction
-sub-fraction c = search needs
+sub-tenths : tie.Need-sub-tenths
+sub-tenths c = search needs
 
-mul-fraction-2 : tie.Need-mul-fraction-2
-mul-fraction-2 c = search needs
+mul-tenths-2 : tie.Need-mul-tenths-2
+mul-tenths-2 c = search needs
 
 mul-split : tie.Need-mul-split
 mul-split c = search needs
@@ -93,9 +93,9 @@ count-pairs-spec =
     tie.close
     (tie.spec
     whole-seconds-requires
-    mul-fraction
-    sub-fraction
-    mul-fraction-2
+    mul-tenths
+    sub-tenths
+    mul-tenths-2
     mul-split
     split-requires
     mul-split-2
