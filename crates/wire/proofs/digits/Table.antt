@@ -21,5 +21,6 @@ from test i (n ∷ ns) h (suc k) l =
     ap (λ (m : ℕ). test m (getD ns k 0)) (add-suc i k ∙ sym (suc-add i k))
     ∙ from test (suc i) ns (and-right (test i n) (all test (suc i) ns) h) k (omega arith)
 
+-- so it holds of the entry at each place
 pub each : (test : ℕ → ℕ → Bool) (ns : List ℕ) → all test 0 ns ≡ true → (k : ℕ) → k < length ns → test k (getD ns k 0) ≡ true
 each test ns h k l = ap (λ (m : ℕ). test m (getD ns k 0)) (sym (zero-add k)) ∙ from test 0 ns h k l
