@@ -1,3 +1,4 @@
+pub mod Blocks
 pub mod Cards
 pub mod Lawful
 pub mod Packets

@@ -10,13 +10,17 @@ use lib.ListN.{length, take, drop, set, getD, take-append-drop}
 use lib.Seq.{take-suc, take-all, drop-set-lt, drop-drop}
 use borrow.Author.Tests.{eq-eqb, ne-eqb, le-ltb, leb-true, le-leb}
 use Rattle.wire.specs.Digits.{below}
-use Rattle.wire.proofs.digits.Laws.{and-left, and-both, below-drop, zeros-below}
+use Rattle.wire.proofs.digits.Laws.{and-left, and-right, and-both, below-drop, zeros-below}
 use Rattle.parts.specs.declared.queue.Queue.{Queue}
 use Rattle.parts.specs.Queues.{queueLawful, emptyQueue, enqueued, total}
 
 pub fill-within : (q : Queue) → queueLawful q ≡ true → q .fill ≤ 64
 unfolding queueLawful
 fill-within q h = leb-true (q .fill) 64 (and-left (leb (q .fill) 64) (below 1 (drop (q .fill) (q .bytes))) h)
+
+pub zeros-behind-fill : (q : Queue) → queueLawful q ≡ true → below 1 (drop (q .fill) (q .bytes)) ≡ true
+unfolding queueLawful
+zeros-behind-fill q h = and-right (leb (q .fill) 64) (below 1 (drop (q .fill) (q .bytes))) h
 
 pub empty-lawful : queueLawful emptyQueue ≡ true
 unfolding queueLawful

@@ -75,6 +75,12 @@ below-drop b zero ds h = h
 below-drop b (suc k) [] h = refl
 below-drop b (suc k) (d ∷ ds) h = below-drop b k ds (and-right (ltb d b) (below b ds) h)
 
+-- digits are below a base if each is
+pub below-each : (b : ℕ) (ds : List ℕ) → ((i : ℕ) → getD ds i 0 < b) → below b ds ≡ true
+unfolding below
+below-each b [] h = refl
+below-each b (d ∷ ds) h = simp (lt-ltb d b (h 0)) (below-each b ds (λ i. h (suc i)))
+
 -- a list from a place on: its next k elements, and the rest
 pub cut : (i k : ℕ) (ds : List ℕ) → drop i ds ≡ take k (drop i ds) ++ drop (i + k) ds
 cut i k ds = sym (ap (λ (l : List ℕ). take k (drop i ds) ++ l) (sym (drop-drop k i ds)) ∙ take-append-drop k (drop i ds))
