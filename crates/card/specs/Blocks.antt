@@ -1,5 +1,5 @@
 -- A block into the queue: the bytes of a row written to FIFO one after another, by one call.
-use Prim.Native.Nat.{ℕ, suc, _+_, _-_, min}
+use Prim.Native.Nat.{ℕ, _+_, _-_, min}
 use mathlib.Core.Bool.{Bool, not}
 use mathlib.Core.List.{List, [], _∷_, _++_}
 use lib.Dec.{ltb, eqb}
@@ -16,15 +16,15 @@ use Rattle.card.specs.Registers.{writeRegister}
 abbrev pub blockAnswer : Card → ℕ → ℕ → BlockAnswer
 blockAnswer c n taken = record { card = c; number = n; taken = taken }
 
--- one byte was taken before these
-abbrev pub oneMore : BlockAnswer → BlockAnswer
-oneMore r = blockAnswer (r .card) (r .number) (suc (r .taken))
+-- the same, where n bytes were taken before
+abbrev pub behind : ℕ → BlockAnswer → BlockAnswer
+behind n r = blockAnswer (r .card) (r .number) (n + r .taken)
 
 -- bytes written to register 13 one after another, up to and including the first refusal
 unfoldable pub oneByOne : Card → List ℕ → BlockAnswer
 oneByOne c [] = blockAnswer c 0 0
 oneByOne c (b ∷ bs) =
-    pick (eqb (writeRegister c 13 b .number) 0) (oneMore (oneByOne (writeRegister c 13 b .card) bs))
+    pick (eqb (writeRegister c 13 b .number) 0) (behind 1 (oneByOne (writeRegister c 13 b .card) bs))
     (blockAnswer (writeRegister c 13 b .card) (writeRegister c 13 b .number) 0)
 
 -- the same of a lawful card; 18 comes first, beside an empty row too

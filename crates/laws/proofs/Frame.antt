@@ -21,7 +21,7 @@ use Rattle.card.specs.Packets.{ackRefusal, doneCleared}
 use Rattle.card.specs.Waiting.{cardAfter}
 use Rattle.laws.specs.Calls.{Call, after, Field, among, Same, packetTouches, ackTouches, readTouches, writeTouches, touches}
 use Rattle.laws.specs.Refusals.{Excepted}
-use Rattle.laws.proofs.Outcomes.{Effect, Outcome, outcome}
+use Rattle.laws.proofs.Outcomes.{Effect, Outcome, found-effect, outcome}
 
 -- a card that stays is the same in every field
 pick-same : {A : Type 0} (t : Bool) (a : A) → pick t a a ≡ a
@@ -73,6 +73,7 @@ touched k c d (Effect.writes-control v) = refl
 touched k c d (Effect.clears-done v e) = ack-clears v c e
 touched k c d (Effect.takes-packet v b e) = subst (λ (fs : List Field). Same fs c d) (sym (ack-takes v c b e)) (packet-touched (packetIn (queued (c .queue))) c)
 touched k c d (Effect.joins-queue v e) = refl
+touched k c d (Effect.joins-block row e) = refl
 touched k c d (Effect.writes-mask v) = refl
 touched k c d (Effect.clears-pending v) = refl
 touched k c d (Effect.writes-level v) = refl
@@ -90,6 +91,7 @@ touched k c d (Effect.loads bytes e) = refl
 excepted : {n : ℕ} (k : Call) (c d : Card) → Excepted k c d n → Same (touches k c) c d
 unfolding touches writeTouches
 excepted k c d (Excepted.packet v l b z) = subst (λ (fs : List Field). Same fs c d) (sym (ack-refuses v c b z)) (refused-touched c)
+excepted k c d (Excepted.block row l r f) = touched _ c d (found-effect c row l)
 
 by-outcome : {n : ℕ} (k : Call) (c d : Card) → Outcome k c d n → Same (touches k c) c d
 by-outcome k c d (Outcome.unlawful l) = unchanged (touches k c) c

@@ -41,11 +41,12 @@ use Rattle.card.specs.Lawful.{lawful}
 use Rattle.card.specs.Registers.{wordsNow}
 use Rattle.card.specs.Waiting.{waitRefusal, cardAfter}
 use Rattle.card.specs.Reset.{resetCard, freshCard}
+use Rattle.card.proofs.block.Laws.{filled-lawful}
 use Rattle.card.proofs.lawful.Laws.{Parts, parts, whole}
 use Rattle.card.proofs.registers.Laws.{time-lawful, words-read, ack-packet}
 use Rattle.laws.specs.Calls.{Call, after, afterAll}
 use Rattle.laws.specs.Refusals.{Excepted}
-use Rattle.laws.proofs.Outcomes.{Effect, Outcome, by, outcome}
+use Rattle.laws.proofs.Outcomes.{Effect, Outcome, by, found-effect, outcome}
 
 -- ---- one part changed
 
@@ -127,6 +128,7 @@ module _ (c : Card) (h : lawful c ≡ true) where
       let q = keeps-queue c h emptyQueue empty-lawful in
       keeps-done _ (keeps-settings _ q _ (applied-lawful (packetIn (queued (c .queue))) (c .settings) (o .fitting) (o .meant) (parts c h .settings))) true
   kept k d (Effect.joins-queue v e) = keeps-queue c h _ (enqueued-lawful (c .queue) (v % 256) e (parts c h .queue))
+  kept k d (Effect.joins-block row e) = keeps-queue c h _ (filled-lawful row (c .queue) (parts c h .queue) e)
   kept k d (Effect.writes-mask v) = keeps-interrupts c h _ (within _ (record { mask = omega arith; pending = r .pending; level = r .level }))
   kept k d (Effect.clears-pending v) =
       keeps-interrupts c h _ (within _ (record { mask = r .mask; pending = omega (arith, cleared-within v (i .pending), r .pending); level = r .level }))
@@ -146,6 +148,7 @@ module _ (c : Card) (h : lawful c ≡ true) where
 
   excepted : {n : ℕ} (k : Call) (d : Card) → Excepted k c d n → lawful d ≡ true
   excepted k d (Excepted.packet v l b z) = keeps-done _ (keeps-queue c h emptyQueue empty-lawful) false
+  excepted k d (Excepted.block row l r f) = kept _ d (found-effect c row l)
 
   by-outcome : {n : ℕ} (k : Call) (d : Card) → Outcome k c d n → lawful d ≡ true
   by-outcome k d (Outcome.unlawful l) = h

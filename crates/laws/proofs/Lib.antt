@@ -1,4 +1,5 @@
 -- Laws of all calls together, the continuation of waits, the ends of years, and the page's examples.
+pub mod Blocks
 pub mod Demand
 pub mod Examples
 pub mod Fed

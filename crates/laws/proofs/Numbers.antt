@@ -32,6 +32,7 @@ use Rattle.card.specs.Waiting.{waitRefusal, waited}
 use Rattle.card.specs.Reset
 use Rattle.card.specs.Saved
 use Rattle.card.specs.Saved.{saveRefusal}
+use Rattle.card.proofs.block.Laws.{block-number}
 use Rattle.laws.specs.Calls.{Call, number}
 use Rattle.laws.specs.Refusals.{lines}
 use Rattle.laws.proofs.Outcomes.{by}
@@ -99,6 +100,7 @@ unfolding number Setting.setTime Setting.setStrobe Setting.setPeriodic Registers
 number-given (Call.setTime year day hour minute second) c = refl
 number-given (Call.read reg) c = read-gives c reg
 number-given (Call.write reg v) c = write-number c reg v
+number-given (Call.block row) c = block-number c row
 number-given (Call.edge falling) c = refl
 number-given Call.line c = line-table c (lawful c) refl
 number-given (Call.setStrobe s) c = refl
@@ -113,6 +115,7 @@ numbered : (k : Call) (c : Card) → absent 0 (lines k c) ≡ true
 numbered (Call.setTime year day hour minute second) c = refl
 numbered (Call.read reg) c = refl
 numbered (Call.write reg v) c = by (λ (ls : List Line). absent 0 ls ≡ true) (eqb reg 12 && bit 128 v) (λ e. packet-numbered (queued (c .queue))) (λ e. refl)
+numbered (Call.block row) c = refl
 numbered (Call.edge falling) c = refl
 numbered Call.line c = refl
 numbered (Call.setStrobe s) c = refl

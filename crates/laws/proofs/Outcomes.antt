@@ -5,12 +5,13 @@ use mathlib.Core.Path.{_≡_, refl, sym, ap, subst, _∙_}
 use mathlib.Core.Bool.{Bool, true, false, _&&_, not}
 use mathlib.Core.List.{List, [], _∷_}
 use mathlib.Core.Logic.{⊎-elim}
-use native.Mathlib.Nat.{pos-of-ne-zero, le-antisymm}
+use native.Mathlib.Nat.{pos-of-ne-zero, le-antisymm, min-le-left}
 use native.Mathlib.Omega.{arith}
 use lib.Arith.{lt-of-le-ne}
 use lib.Dec.{eqb, leb, ltb}
-use lib.ListN.{length}
-use borrow.Author.Tests.{eqb-true, eqb-false, ne-eqb, ltb-false, le-leb}
+use lib.ListN.{length, take, length-take}
+use lib.Seq.{take-all}
+use borrow.Author.Tests.{eqb-true, eqb-false, ne-eqb, ltb-true, ltb-false, le-leb}
 use Rattle.wire.specs.Digits.{pick, unpacked}
 use Rattle.wire.specs.Numbers.{_if_, given}
 use Rattle.wire.specs.Packets.{packetIn}
@@ -25,10 +26,12 @@ use Rattle.clock.specs.Waiting.{passed, listed, fell, waitLines}
 use Rattle.parts.specs.declared.interrupts.Interrupts.{Interrupts}
 use Rattle.card.specs.declared.card.Card.{Card}
 use Rattle.card.specs.declared.card.Answer.{Answer}
+use Rattle.card.specs.declared.block.BlockAnswer.{BlockAnswer}
 use Rattle.card.specs.declared.registers.Value.{Value}
 use Rattle.card.specs.declared.waiting.WaitedCard.{WaitedCard}
 use Rattle.parts.specs.Events.{withControl}
 use Rattle.parts.specs.Interrupts.{withMask, withPending, withLevel, withVector, interruptsWritten, lineUp}
+use Rattle.card.specs.Blocks.{writeBlock, free}
 use Rattle.card.specs.Cards.{answer, granted, withClock, withTimeLatch, withEvent, withDone, withInterrupts, withQueue, withSettings}
 use Rattle.card.specs.Lawful.{lawful}
 use Rattle.parts.specs.Pending.{bit, cleared}
@@ -45,6 +48,7 @@ use Rattle.card.specs.Reset.{resetCard}
 use Rattle.card.specs.Saved
 use Rattle.parts.specs.Saved.{meaningful, settingsIn}
 use Rattle.card.specs.Saved.{saveRefusal}
+use Rattle.card.proofs.block.Laws.{filled, block-18, block-is}
 use Rattle.card.proofs.registers.Laws.{ack-packet, queue-within}
 use Rattle.laws.specs.Calls.{Call, after, number}
 use Rattle.laws.specs.Refusals.{Excepted}
@@ -61,6 +65,7 @@ pub data Effect (c : Card) : Call → Card → Type 0 where
   takes-packet : (v : ℕ) → bit 128 v ≡ true → ackRefusal (c .queue) ≡ 0
       → Effect c (Call.write 12 v) (withDone (withSettings (withQueue c emptyQueue) (applied (packetIn (queued (c .queue))) (c .settings))) true)
   joins-queue : (v : ℕ) → c .queue .fill < 64 → Effect c (Call.write 13 v) (withQueue c (enqueued (c .queue) (v % 256)))
+  joins-block : (row : List ℕ) → length row ≤ free (c .queue) → Effect c (Call.block row) (withQueue c (filled (c .queue) row))
   writes-mask : (v : ℕ) → Effect c (Call.write 14 v) (withInterrupts c (withMask (c .interrupts) (v % 32)))
   clears-pending : (v : ℕ) → Effect c (Call.write 15 v) (withInterrupts c (withPending (c .interrupts) (cleared v (c .interrupts .pending))))
   writes-level : (v : ℕ) → Effect c (Call.write 16 v) (withInterrupts c (withLevel (c .interrupts) (v % 8)))
@@ -210,6 +215,50 @@ module _ (c : Card) (reg v : ℕ) where
       (λ w. by (λ (n : ℕ). Writes (writing n)) (eqb reg 13 && eqb (c .queue .fill) 64) (λ e. refused l refl refl)
       (λ f. writes l m w f)))
 
+-- ---- a block
+
+module _ (c : Card) (row : List ℕ) where
+  abbrev Blocked : Card → ℕ → Type 0
+  Blocked d n = Outcome (Call.block row) c d n
+
+  abbrev found : Card
+  found = withQueue c (filled (c .queue) (take (free (c .queue)) row))
+
+  -- the bytes that find a place are a block of their own, which is accepted
+  few : length (take (free (c .queue)) row) ≤ free (c .queue)
+  few = omega (arith, length-take (free (c .queue)) row, min-le-left (free (c .queue)) (length row))
+
+  found-is : lawful c ≡ true → found ≡ writeBlock c (take (free (c .queue)) row) .card
+  found-is l =
+      ap (λ (bs : List ℕ). withQueue c (filled (c .queue) bs)) (sym (take-all (free (c .queue)) (take (free (c .queue)) row) few))
+      ∙ sym (ap (λ (r : BlockAnswer). r .card) (block-is c (take (free (c .queue)) row) l))
+
+  pub found-effect : lawful c ≡ true → Effect c (Call.block (take (free (c .queue)) row)) (writeBlock c (take (free (c .queue)) row) .card)
+  found-effect l = subst (Effect c (Call.block (take (free (c .queue)) row))) (found-is l) (joins-block (take (free (c .queue)) row) few)
+
+  -- none finds one
+  full : lawful c ≡ true → c .queue .fill ≡ 64 → found ≡ c
+  full l e = ap (λ (k : ℕ). withQueue c (filled (c .queue) (take k row))) (let z : free (c .queue) ≡ 0 = omega arith in z)
+
+  left-over : lawful c ≡ true → free (c .queue) < length row → Blocked found 3
+  left-over l h =
+      ⊎-elim
+      (λ (r : c .queue .fill < 64). subst (λ (d : Card). Blocked d 3) (sym (found-is l)) (excepted l (Excepted.block row l r h) refl refl))
+      (λ (f : 64 ≤ c .queue .fill). subst (λ (d : Card). Blocked d 3) (sym (full l (le-antisymm (queue-within c l) f))) (refused l refl refl))
+      (lt-or-le (c .queue .fill) 64)
+
+  all-found : lawful c ≡ true → length row ≤ free (c .queue) → Blocked found 0
+  all-found l h = subst (λ (bs : List ℕ). Blocked (withQueue c (filled (c .queue) bs)) 0) (sym (take-all (free (c .queue)) row h)) (accepted l (joins-block row h))
+
+  block-by : (known : Bool) → lawful c ≡ known → Blocked (writeBlock c row .card) (writeBlock c row .number)
+  block-by false l = subst (λ (r : BlockAnswer). Blocked (r .card) (r .number)) (block-18 c row (lawful c) refl l) (unlawful l)
+  block-by true l =
+      subst (λ (r : BlockAnswer). Blocked (r .card) (r .number)) (sym (block-is c row l))
+      (rw l
+      (by (Blocked found) (ltb (free (c .queue)) (length row))
+      (λ e. left-over l (ltb-true (free (c .queue)) (length row) e))
+      (λ e. all-found l (ltb-false (free (c .queue)) (length row) e))))
+
 -- ---- saving, the line, waiting
 
 save-by : (c : Card) (row : List ℕ) (known : Bool) → lawful c ≡ known → Outcome (Call.save row) c c (given (18 if not known ∷ 14 if ltb (length row) 5 ∷ []))
@@ -242,6 +291,7 @@ outcome (Call.setTime year day hour minute second) c =
     one-line _ c _ 11 (dateFits year day hour minute second) refl refl (sets-time year day hour minute second) (lawful c) refl
 outcome (Call.read reg) c = read-by c reg (lawful c) refl
 outcome (Call.write reg v) c = write-by c reg v (lawful c) refl
+outcome (Call.block row) c = block-by c row (lawful c) refl
 outcome (Call.edge falling) c =
     only-18 _ c _
     (λ l. by (Effect c (Call.edge falling)) (captures (c .event .control) falling) (captures-edge falling) (passes-edge falling))

@@ -28,7 +28,7 @@ use Rattle.laws.specs.Calls.{Call, after, number, pendingBit}
 use Rattle.laws.specs.Refusals.{Excepted}
 use Rattle.laws.specs.Demand.{Asked, front}
 use Rattle.laws.proofs.Demand.{accepts, front-listed, accepted-exactly-if}
-use Rattle.laws.proofs.Outcomes.{Effect, Outcome, by, outcome}
+use Rattle.laws.proofs.Outcomes.{Effect, Outcome, by, found-effect, outcome}
 use Rattle.laws.proofs.Refused.{accepted-lawful}
 
 pending-small : (c : Card) → lawful c ≡ true → c .interrupts .pending < 32
@@ -74,6 +74,7 @@ four c d k l (Effect.writes-control v) h = h
 four c d k l (Effect.clears-done v e) h = by (λ (x : Card). pendingBit 4 x ≡ true → pendingBit 4 c ≡ true) (bit 1 v) (λ f g. g) (λ f g. g) h
 four c d k l (Effect.takes-packet v b e) h = h
 four c d k l (Effect.joins-queue v e) h = h
+four c d k l (Effect.joins-block row e) h = h
 four c d k l (Effect.writes-mask v) h = h
 four c d k l (Effect.clears-pending v) h = and-left (pendingBit 4 c) (not (bit 16 v)) (sym (clears 4 v (c .interrupts .pending) (lit< tt) (pending-small c l)) ∙ h)
 four c d k l (Effect.writes-level v) h = h
@@ -94,6 +95,7 @@ four c d k l (Effect.loads bytes e) h = h
 
 four-excepted : {n : ℕ} (k : Call) (c d : Card) → Excepted k c d n → pendingBit 4 d ≡ true → pendingBit 4 c ≡ true
 four-excepted k c d (Excepted.packet v l b z) h = h
+four-excepted k c d (Excepted.block row l r f) h = four c d _ l (found-effect c row l) h
 
 four-by : {n : ℕ} (k : Call) (c d : Card) → Outcome k c d n → pendingBit 4 d ≡ true → pendingBit 4 c ≡ true
 four-by k c d (Outcome.unlawful l) h = h

@@ -1,17 +1,21 @@
 -- A refused call changes nothing, but in the cases that `specs/Refusals` names; the values and the row beside a refusal are what it names. 18 is given exactly
 -- if the card is not lawful. By the cases of Outcomes. Assumes nothing.
-use Prim.Native.Nat.{ℕ, _≤_}
+use Prim.Native.Nat.{ℕ, _≤_, _<_}
 use mathlib.Core.Path.{_≡_, refl, sym, ap, _∙_}
 use mathlib.Core.Bool.{Bool, true, false, _&&_}
 use mathlib.Core.List.{List, [], _∷_}
-use mathlib.Core.Logic.{_⊎_, inl, inr, _↔_}
+use mathlib.Core.Logic.{_⊎_, inl, inr, ⊎-elim, _↔_}
+use native.Mathlib.Nat.{min-eq-left, le-of-lt}
 use native.Mathlib.Omega.{arith}
 use lib.Dec.{eqb}
 use lib.ListN.{length}
-use borrow.Author.Tests.{eqb-false, eqb-true}
-use Rattle.wire.proofs.digits.Laws.{clash}
+use borrow.Author.Tests.{eqb-false, eqb-true, le-ltb}
+use Rattle.wire.specs.Digits.{pick}
+use Rattle.wire.proofs.digits.Laws.{clash, lt-or-le}
 use Rattle.wire.proofs.packets.Read.{packet-number}
 use Rattle.card.specs.declared.card.Card.{Card}
+use Rattle.card.specs.declared.block.BlockAnswer.{BlockAnswer}
+use Rattle.card.specs.Blocks.{writeBlock, free}
 use Rattle.card.specs.Lawful.{lawful}
 use Rattle.parts.specs.Queues.{queued}
 use Rattle.card.specs.Registers
@@ -20,6 +24,7 @@ use Rattle.card.specs.Registers.{readRefusal, readRegister}
 use Rattle.card.specs.Waiting
 use Rattle.card.specs.Waiting.{waitRefusal, rowWaited}
 use Rattle.card.specs.Saved.{saveRefusal, rowSaved}
+use Rattle.card.proofs.block.Laws.{block-18, block-is, block-number}
 use Rattle.card.proofs.registers.Laws.{ack-packet}
 use Rattle.laws.specs.Calls.{Call, after, number, values, lent, left}
 use Rattle.laws.specs.Refusals.{Excepted, beside}
@@ -36,11 +41,13 @@ by-outcome k c (Outcome.excepted l x e f) h = inr x
 pub refused : (k : Call) (c : Card) → (number k c ≡ 0 → ⊥) → (after k c ≡ c) ⊎ Excepted k c (after k c) (number k c)
 refused k c = by-outcome k c (outcome k c)
 
--- a packet is refused by 4 to 10
-pub excepted-number : {d : Card} {n : ℕ} (k : Call) (c : Card) → Excepted k c d n → (4 ≤ n) × (n ≤ 10)
+-- a packet is refused by 4 to 10, a block by 3
+pub excepted-number : {d : Card} {n : ℕ} (k : Call) (c : Card) → Excepted k c d n → ((4 ≤ n) × (n ≤ 10)) ⊎ ((n ≡ 3) × (k ≡ Call.block (lent k)))
+unfolding lent
 excepted-number k c (Excepted.packet v l b z) =
     let q = packet-number (queued (c .queue)) (λ w. z (ack-packet (c .queue) ∙ w)) in
-    rw (ack-packet (c .queue)) q
+    inl (rw (ack-packet (c .queue)) q)
+excepted-number k c (Excepted.block row l r f) = inr (refl, refl)
 
 -- ---- 18
 
@@ -89,6 +96,12 @@ unfolding Waiting.wait rowWaited values
 wait-beside n row c true e h = absurd (h (simp e))
 wait-beside n row c false e h = (simp e, simp e)
 
+block-beside : (row : List ℕ) (c : Card) (t : Bool) → lawful c ≡ t → (writeBlock c row .number ≡ 0 → ⊥) → writeBlock c row .taken ≡ pick (lawful c) (free (c .queue)) 0
+block-beside row c true l h =
+    let s : free (c .queue) < length row = ⊎-elim (λ w. w) (λ w. absurd (h (block-number c row ∙ simp (l, le-ltb (free (c .queue)) (length row) w)))) (lt-or-le (free (c .queue)) (length row)) in
+    ap (λ (r : BlockAnswer). r .taken) (block-is c row l) ∙ min-eq-left (le-of-lt s) ∙ simp l
+block-beside row c false l h = ap (λ (r : BlockAnswer). r .taken) (sym (block-18 c row (lawful c) refl l)) ∙ simp l
+
 save-beside : (row : List ℕ) (c : Card) (t : Bool) → eqb (saveRefusal c (length row)) 0 ≡ t → (saveRefusal c (length row) ≡ 0 → ⊥) → rowSaved c row ≡ row
 unfolding rowSaved
 save-beside row c true e h = absurd (h (eqb-true _ 0 e))
@@ -100,6 +113,7 @@ unfolding number values beside
 values-beside (Call.setTime year day hour minute second) c h = refl
 values-beside (Call.read reg) c h = ap (λ (v : ℕ). v ∷ []) (read-beside reg c (eqb (readRefusal (lawful c) reg) 0) refl h)
 values-beside (Call.write reg v) c h = refl
+values-beside (Call.block row) c h = ap (λ (n : ℕ). n ∷ []) (block-beside row c (lawful c) refl h)
 values-beside (Call.edge falling) c h = refl
 values-beside Call.line c h = line-beside c (lawful c && lineUp (c .interrupts)) refl h
 values-beside (Call.setStrobe s) c h = refl
@@ -115,6 +129,7 @@ unfolding number left lent
 row-stays (Call.setTime year day hour minute second) c h = refl
 row-stays (Call.read reg) c h = refl
 row-stays (Call.write reg v) c h = refl
+row-stays (Call.block row) c h = refl
 row-stays (Call.edge falling) c h = refl
 row-stays Call.line c h = refl
 row-stays (Call.setStrobe s) c h = refl

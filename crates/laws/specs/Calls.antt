@@ -20,6 +20,7 @@ use Rattle.card.specs.Packets.{ackRefusal}
 use Rattle.card.specs.declared.registers.InterruptLine.{InterruptLine}
 use Rattle.card.specs.declared.waiting.Waited.{Waited}
 use Rattle.card.specs.Registers
+use Rattle.card.specs.Blocks
 use Rattle.card.specs.Setting
 use Rattle.card.specs.Waiting
 use Rattle.card.specs.Reset
@@ -30,6 +31,7 @@ pub data Call : Type 0 where
   setTime : (year day hour minute second : ℕ) → Call
   read : (reg : ℕ) → Call
   write : (reg v : ℕ) → Call
+  block : (row : List ℕ) → Call
   edge : (falling : Bool) → Call
   line : Call
   setStrobe : StrobeAt → Call
@@ -44,6 +46,7 @@ unfoldable pub after : Call → Card → Card
 after (Call.setTime year day hour minute second) c = Setting.setTime c year day hour minute second .card
 after (Call.read reg) c = Registers.readRegister c reg .card
 after (Call.write reg v) c = Registers.writeRegister c reg v .card
+after (Call.block row) c = Blocks.writeBlock c row .card
 after (Call.edge falling) c = Registers.edge c falling .card
 after Call.line c = c
 after (Call.setStrobe s) c = Setting.setStrobe c s .card
@@ -58,6 +61,7 @@ unfoldable pub number : Call → Card → ℕ
 number (Call.setTime year day hour minute second) c = Setting.setTime c year day hour minute second .number
 number (Call.read reg) c = Registers.readRegister c reg .number
 number (Call.write reg v) c = Registers.writeRegister c reg v .number
+number (Call.block row) c = Blocks.writeBlock c row .number
 number (Call.edge falling) c = Registers.edge c falling .number
 number Call.line c = Registers.line c .number
 number (Call.setStrobe s) c = Setting.setStrobe c s .number
@@ -78,6 +82,7 @@ unfoldable pub values : Call → Card → List ℕ
 values (Call.setTime year day hour minute second) c = []
 values (Call.read reg) c = Registers.readRegister c reg .value ∷ []
 values (Call.write reg v) c = []
+values (Call.block row) c = Blocks.writeBlock c row .taken ∷ []
 values (Call.edge falling) c = []
 values Call.line c = lineValues (Registers.line c)
 values (Call.setStrobe s) c = []
@@ -92,6 +97,7 @@ unfoldable pub lent : Call → List ℕ
 lent (Call.setTime year day hour minute second) = []
 lent (Call.read reg) = []
 lent (Call.write reg v) = []
+lent (Call.block row) = row
 lent (Call.edge falling) = []
 lent Call.line = []
 lent (Call.setStrobe s) = []
@@ -105,6 +111,7 @@ unfoldable pub left : Call → Card → List ℕ
 left (Call.setTime year day hour minute second) c = []
 left (Call.read reg) c = []
 left (Call.write reg v) c = []
+left (Call.block row) c = row
 left (Call.edge falling) c = []
 left Call.line c = []
 left (Call.setStrobe s) c = []
@@ -213,6 +220,7 @@ unfoldable pub touches : Call → Card → List Field
 touches (Call.setTime year day hour minute second) c = Field.time ∷ []
 touches (Call.read reg) c = readTouches reg
 touches (Call.write reg v) c = writeTouches reg v (c .queue)
+touches (Call.block row) c = Field.queue ∷ []
 touches (Call.edge falling) c = Field.eventLatch ∷ Field.pending ∷ []
 touches Call.line c = []
 touches (Call.setStrobe s) c = Field.strobe ∷ []

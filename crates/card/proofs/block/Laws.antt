@@ -18,7 +18,7 @@ use Rattle.parts.specs.Queues.{queued, enqueued, queueLawful}
 use Rattle.parts.proofs.queue.Laws.{enqueued-lawful, zeros-behind-fill}
 use Rattle.card.specs.declared.card.Card.{Card}
 use Rattle.card.specs.declared.block.BlockAnswer.{BlockAnswer}
-use Rattle.card.specs.Blocks.{blockAnswer, oneMore, oneByOne, writeBlock, free, finding, joined, blockLines}
+use Rattle.card.specs.Blocks.{blockAnswer, behind, oneByOne, writeBlock, free, finding, joined, blockLines}
 use Rattle.card.specs.Cards.{answer, withQueue}
 use Rattle.card.specs.Lawful.{lawful}
 use Rattle.card.specs.Registers.{writeRegister}
@@ -37,7 +37,7 @@ abbrev pub filled : Queue → List ℕ → Queue
 filled q [] = q
 filled q (b ∷ bs) = filled (enqueued q (b % 256)) bs
 
-joins-lawful : (c : Card) (b : ℕ) → lawful c ≡ true → c .queue .fill < 64 → lawful (withQueue c (enqueued (c .queue) b)) ≡ true
+pub joins-lawful : (c : Card) (b : ℕ) → lawful c ≡ true → c .queue .fill < 64 → lawful (withQueue c (enqueued (c .queue) b)) ≡ true
 joins-lawful c b l h =
     let p : Parts c = parts c l in
     whole _ (record { interrupts = p .interrupts; event = p .event; timeLatch = p .timeLatch; settings = p .settings; queue = enqueued-lawful (c .queue) b h (p .queue); clock = p .clock })
@@ -54,10 +54,17 @@ ends (b ∷ bs) c zero l h =
 ends (b ∷ bs) c (suc k) l h =
     let q : Queue = enqueued (c .queue) (b % 256) in
     let w : writeRegister c 13 b ≡ answer (withQueue c q) 0 = sym (fifo-joins c b true (sym l) refl (λ e. omega arith) (set (c .queue .bytes) (c .queue .fill) (b % 256)) refl) in
-    rw w (ap oneMore (ends bs (withQueue c q) k (joins-lawful c (b % 256) l (omega arith)) (omega arith))
+    let n : 1 + length (take k bs) ≡ suc (length (take k bs)) = omega arith in
+    rw w (ap (behind 1) (ends bs (withQueue c q) k (joins-lawful c (b % 256) l (omega arith)) (omega arith))
+    ∙ ap (blockAnswer (withQueue c (filled q (take k bs))) (pick (ltb k (length bs)) 3 0)) n
     ∙ ap (λ (t : Bool). blockAnswer (withQueue c (filled q (take k bs))) (pick t 3 0) (suc (length (take k bs)))) (sym (leb·suc-suc (suc k) (length bs))))
 
-free-places : (q : Queue) → q .fill ≤ 64 → q .fill + free q ≡ 64
+-- refused by 18
+pub block-18 : (c : Card) (row : List ℕ) (k : Bool) → k ≡ lawful c → k ≡ false → blockAnswer c 18 0 ≡ writeBlock c row
+unfolding writeBlock
+block-18 c row k e f = simp (sym e ∙ f)
+
+pub free-places : (q : Queue) → q .fill ≤ 64 → q .fill + free q ≡ 64
 free-places q h = omega arith
 
 table : (known : Bool) (q : Queue) (row : List ℕ) → known ≡ true → pick (ltb (free q) (length row)) 3 0 ≡ given (blockLines known q row)
@@ -71,6 +78,19 @@ block-is c row l =
     simp l
     (ends row c (free (c .queue)) l (free-places (c .queue) (queue-within c l))
     ∙ ap₂ (blockAnswer (withQueue c (filled (c .queue) (take (free (c .queue)) row)))) (table true (c .queue) row refl) (length-take (free (c .queue)) row))
+
+-- of every card: the number of its table
+pub block-number : (c : Card) (row : List ℕ) → writeBlock c row .number ≡ given (blockLines (lawful c) (c .queue) row)
+block-number c row = go (lawful c) refl
+  where
+    go : (t : Bool) → lawful c ≡ t → writeBlock c row .number ≡ given (blockLines (lawful c) (c .queue) row)
+    go true l = ap (λ (r : BlockAnswer). r .number) (block-is c row l)
+    go false l = ap (λ (r : BlockAnswer). r .number) (sym (block-18 c row (lawful c) refl l)) ∙ simp l
+
+-- and the queue that bytes joined is lawful
+pub filled-lawful : (bs : List ℕ) (q : Queue) → queueLawful q ≡ true → length bs ≤ free q → queueLawful (filled q bs) ≡ true
+filled-lawful [] q h e = h
+filled-lawful (b ∷ bs) q h e = filled-lawful bs (enqueued q (b % 256)) (enqueued-lawful q (b % 256) (omega arith) h) (omega arith)
 
 -- ---- at once
 
@@ -115,10 +135,6 @@ take-finding : (n : ℕ) (row : List ℕ) → take (min n (length row)) row ≡ 
 take-finding zero row = ap (λ (k : ℕ). take k row) (zero-min (length row))
 take-finding (suc n) [] = ap (λ (k : ℕ). take {A = ℕ} k []) (min-zero (suc n))
 take-finding (suc n) (b ∷ bs) = ap (λ (k : ℕ). take k (b ∷ bs)) (suc-min-suc n (length bs)) ∙ ap (λ (l : List ℕ). b ∷ l) (take-finding n bs)
-
-pub block-18 : (c : Card) (row : List ℕ) (k : Bool) → k ≡ lawful c → k ≡ false → blockAnswer c 18 0 ≡ writeBlock c row
-unfolding writeBlock
-block-18 c row k e f = simp (sym e ∙ f)
 
 -- of a card that may be handed in: 64 places, bytes of eight bits
 module _ (c : Card) (row : List ℕ) (l : lawful c ≡ true) (places : length (c .queue .bytes) ≡ 64) (bytes : below 256 row ≡ true) where
