@@ -1,4 +1,4 @@
-"""How a script is written, and what the page says of each of its lines: used by refusals.py, registers.py, waits.py and times.py.
+"""How a script is written, and what the page says of each of its lines: used by refusals.py, registers.py, blocks.py, waits.py and times.py.
 
 A line is what is to be said, a bar, and a call: a letter and decimal numbers. A line with no call is only said. Some calls only change the card, and say nothing:
 
@@ -8,12 +8,13 @@ A line is what is to be said, a bar, and a call: a letter and decimal numbers. A
 
 Behind the others stand their number and what else they give back:
 
-    r REGISTER   w REGISTER VALUE   e FALLING   l the line   x reset   p PLACES (save)   o COUNT and bytes (load)   t YEAR DAY HOUR MINUTE SECOND
-    d N1 N2   q periodic off   s MS   a HOUR MINUTE SECOND MS   z strobe off   n PLACES TICKS (wait)   i PLACES TICKS (wait in place)
-    f DAY TICK   g 0 and five words   A PLACES MODE   G PLACES OFFSET   H PLACES FORMAT MODULATION   J PLACES (I with E)   K PLACES (K with H)
-    v what stands in the card
+    r REGISTER   w REGISTER VALUE   b COUNT FIRST STEP (a block)   e FALLING   l the line   x reset   p PLACES (save)   o COUNT and bytes (load)
+    t YEAR DAY HOUR MINUTE SECOND   d N1 N2   q periodic off   s MS   a HOUR MINUTE SECOND MS   z strobe off   n PLACES TICKS (wait)
+    i PLACES TICKS (wait in place)   f DAY TICK   g 0 and five words   A PLACES MODE   G PLACES OFFSET   H PLACES FORMAT MODULATION
+    J PLACES (I with E)   K PLACES (K with H)   v what stands in the card
 
-Formats are A, B, C, N, X as 0 to 4; modulation D, clock external and generator H are 1; an offset is its place in OFFSETS. Lent places, ten for a wait and twelve for
+Formats are A, B, C, N, X as 0 to 4; modulation D, clock external and generator H are 1; an offset is its place in OFFSETS. The bytes of a block are FIRST and
+each one STEP more than the one before, from 0 on again behind 255; there are at most 80. Lent places, ten for a wait and twelve for
 bytes, hold 7 before. A card is shown as year, day and tick; strobe, 0 or its kind and milliseconds; periodic, 0 or n1, n2 and count; mask, pending, level, vector;
 CONTROL and the event latch; the time latch; mode, format, modulation, clock, generator, minus, size of the offset; done; the queue's fill; and each of its 64 bytes that
 is not 0, as place:byte.
@@ -173,6 +174,13 @@ class Card:
             self.vector = value & 0xFF
         return (0,)
 
+    def block(self, count, first, step):
+        for taken in range(count):
+            number, = self.write(13, (first + taken * step) % 256)
+            if number:
+                return number, taken
+        return 0, count
+
     def acknowledge(self, value):
         if value & 1:
             self.done = 0
@@ -306,6 +314,7 @@ BESIDE_WAIT = (0, 0) + (UNTOUCHED,) * WAIT_PLACES
 CALLS = {
     "r": (Card.read, (0,), "read register {}"),
     "w": (Card.write, (), "write register {} with {:#06x}"),
+    "b": (Card.block, (0,), "block of {}, {} and steps of {}"),
     "e": (Card.edge, (), "input edge"),
     "l": (Card.line, (0, 0, 0), "interrupt line"),
     "x": (Card.reset, (), "reset"),

@@ -5,6 +5,7 @@ use crate::cards::five_at;
 use crate::cards::format_of;
 use crate::cards::modulation_of;
 use crate::cards::offset_of;
+use card::block::write_block;
 use card::card::Answer;
 use card::card::Card;
 use card::registers::input_edge;
@@ -75,6 +76,28 @@ fn told_reading(card: Card, reg: u8) -> Card {
     put_byte(v.number);
     put_short(v.value);
     let c = v.card;
+    c
+}
+
+// Bytes, the first one and each next a step more, from 0 on again behind 255.
+fn rising(row: &mut [u8], first: u8, step: u8) {
+    let mut b = first as u16;
+    for i in 0..row.len() {
+        row[i] = b as u8;
+        b = (b + step as u16) % 256;
+    }
+}
+
+// So many of them as a block.
+fn told_block(card: Card, text: &[u8]) -> Card {
+    let mut row = [0u8; 80];
+    rising(&mut row, byte_at(text, 2), byte_at(text, 3));
+    let from: usize = 0;
+    let count = count_at(text, 80);
+    let a = write_block(card, &row[from..count]);
+    put_byte(a.number);
+    put(a.taken as u64);
+    let c = a.card;
     c
 }
 
@@ -198,6 +221,7 @@ fn called_card(call: u8, card: Card, text: &[u8]) -> Card {
     match call {
         b'r' => told_reading(card, byte_at(text, 1)),
         b'w' => told(write_register(card, byte_at(text, 1), short_at(text, 2))),
+        b'b' => told_block(card, text),
         b'e' => told(input_edge(card, byte_at(text, 1) == 1)),
         b'l' => told_line(card),
         b'x' => told(reset(card)),
