@@ -2,6 +2,8 @@ pub mod Answers
 pub mod Laws
 pub mod Fresh
 pub mod Going
+pub mod Whole
 pub mod Parts
 pub mod Cuts
+pub mod Ends
 pub mod Listed

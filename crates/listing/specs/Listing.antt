@@ -1,5 +1,5 @@
 -- The bench's listing: standard input cut into pieces, and for each piece its number and the answer of a fresh card of its own.
-use Prim.Native.Nat.{ℕ, suc, _+_, _-_, _≤_, _<_, _^_}
+use Prim.Native.Nat.{ℕ, zero, suc, _+_, _-_, _≤_, _<_, _^_}
 use mathlib.Core.Path.{_≡_}
 use mathlib.Core.Bool.{Bool, true, false, _&&_, _||_}
 use mathlib.Core.List.{List, [], _∷_, _++_}
@@ -16,6 +16,7 @@ use Rattle.laws.specs.Calls.{fed}
 use Rattle.laws.specs.Each.{Each}
 use Rattle.listing.specs.declared.feeding.Bench.{Bench}
 use Rattle.listing.specs.declared.feeding.Fed.{Fed}
+use Rattle.listing.specs.declared.feeding.Reached.{Reached}
 
 -- CUTTING
 
@@ -205,6 +206,71 @@ pub record Put (before : List ℕ) (at : ℕ) (text after : List ℕ) (r : ℕ) 
 pub record PutLine (before : List ℕ) (at n answer : ℕ) (after : List ℕ) (r : ℕ) : Type 0 where
   pub put : Put before at (line n answer) after r
   pub short : r ≤ at + 25
+
+-- one byte further on, if anywhere
+abbrev pub onward : ℕ → ℕ
+onward zero = 0
+onward (suc n) = suc (suc n)
+
+-- how many bytes at an input's front end the piece of which k are held, 0 if it does not end there
+unfoldable pub endOf : ℕ → List ℕ → ℕ
+endOf k [] = 0
+endOf k (b ∷ bs) = pick (eqb b 0x17 || eqb k 40) 1 (onward (endOf (suc k) bs))
+
+-- how many bytes the next line is about, where no piece is begun: 0 if none ends, or if its line can't be put
+unfoldable pub nextEnd : ℕ → ℕ → List ℕ → ℕ
+nextEnd n room input = pick (goesOn n room) (endOf 0 input) 0
+
+-- lines of pieces were put at a place, numbered from n on; m is the next number, and w the place behind them
+pub record Lined (n : ℕ) (before : List ℕ) (at : ℕ) (after : List ℕ) (m w : ℕ) (ps : List (List ℕ)) : Type 0 where
+  pub row : after ≡ placed before at (lines n ps)
+  pub number : m ≡ n + length ps
+  pub written : w ≡ at + length (lines n ps)
+  pub fits : w ≤ length before
+
+-- the same after i bytes of an input, where no piece is begun, behind the pieces qs: and how many of its bytes are to be taken
+pub record Going (qs : List (List ℕ)) (n : ℕ) (input before : List ℕ) (at : ℕ) (after : List ℕ) (m w i : ℕ) : Type 0 where
+  pub within : i ≤ length input
+  pub none : rest [] (take i input) ≡ []
+  pub lined : Lined n before at after m w (qs ++ pieces [] (take i input))
+  pub left : takes [] (n + length qs) (length before - (at + length (lines n qs))) input ≡ i + takes [] m (length before - w) (drop i input)
+
+-- the piece of k bytes at an input's front was listed, and those behind it, up to one that does not end or has no room for its line
+pub record Listing (input : List ℕ) (k n : ℕ) (before : List ℕ) (at : ℕ) (after : List ℕ) (r : Reached) : Type 0 where
+  pub behind : ℕ
+  pub taken : r .taken ≡ k + behind
+  pub going : Going (take k input ∷ []) n (drop k input) before at after (r .number) (r .written) behind
+  pub over : nextEnd (r .number) (length before - r .written) (drop (k + behind) input) ≡ 0
+
+pub record Lists (input : List ℕ) (k n : ℕ) (before : List ℕ) (at : ℕ) (after : List ℕ) (r : Reached) : Type 0 where
+  pub none : k ≡ 0 → (after ≡ before) × (r ≡ record { taken = 0; number = n; written = at })
+  pub some : 0 < k → Listing input k n before at after r
+
+-- the bytes of a queue were listed as one piece
+pub record ListsHeld (q : Queue) (n : ℕ) (before after : List ℕ) (r : Reached) : Type 0 where
+  pub count : length (heldIn q) ≡ q .fill
+  pub none : q .fill ≡ 0 → (after ≡ before) × (r .written ≡ 0)
+  pub some : 0 < q .fill → Lined n before 0 after (r .number) (r .written) (heldIn q ∷ [])
+
+-- what feeding answers where no piece is begun and lines stand before a place
+abbrev pub fedWhole : ℕ → ℕ → List ℕ → Fed
+fedWhole n at part =
+    record {
+      bench = benchOf (rest [] part) (n + length (pieces [] part));
+      taken = length part;
+      written = at + length (lines n (pieces [] part));
+    }
+
+pub record FeedsWhole (n : ℕ) (input before : List ℕ) (at : ℕ) (after : List ℕ) (r : Fed) : Type 0 where
+  pub part : List ℕ
+  pub taken : part ≡ take (takes [] n (length before - at) input) input
+  pub answer : r ≡ fedWhole n at part
+  pub lined : Lined n before at after (r .bench .number) (r .written) (pieces [] part)
+
+-- a card when bytes were written to FIFO, and that they are bytes, which a caller need not show
+pub record Held (before : Card) (bs : List ℕ) (after : Card) : Type 0 where
+  pub card : after ≡ fed before bs
+  pub bytes : below 256 bs ≡ true
 
 -- a card with the bytes of a queue written to it, one by one
 pub record Refilled (q : Queue) (c : Card) : Type 0 where

@@ -1,6 +1,6 @@
 -- `feeding::feed` meets its contract: nothing, or as `feed_held` has it.
 -- Assumes nothing.
-use Rattle.listing.proofs.feeding.Going.{feed-none, feed-some}
+use Rattle.listing.proofs.feeding.Whole.{feed-none, feed-some}
 use borrow.Author.Needs.{needs}
 use Rattle.listing.proofs.feeding.feed.Statement.{statement}
 use Rattle.listing.proofs.feeding.feed.Tie as tie

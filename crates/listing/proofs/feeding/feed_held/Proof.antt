@@ -1,132 +1,147 @@
--- `feeding::feed_held` meets its contract. The invariant: whatever bytes the first card holds, the loop is after i bytes of the input, fed behind them.
--- The measure is what is left of the input. Assumes nothing.
-use Prim.Native.Nat.{ℕ, _-_}
-use mathlib.Core.Path.{_≡_, sym, _∙_, refl}
-use mathlib.Core.List.{List}
+-- `feeding::feed_held` meets its contract: no byte is taken, all join the ones held, or they end the piece, and what is behind it is fed.
+-- Assumes nothing.
+use Prim.Native.Nat.{ℕ, _+_, _-_, _≤_}
+use mathlib.Core.Path.{_≡_, refl, sym, ap, _∙_}
+use mathlib.Core.Bool.{true}
+use mathlib.Core.List.{List, [], _∷_, _++_}
 use native.Mathlib.Omega.{arith}
-use lib.ListN.{length}
+use lib.ListN.{length, take, drop, length-drop}
 use borrow.Author.Tests.{not-true, not-false}
-use Rattle.listing.specs.Listing.{heldIn}
-use Rattle.listing.proofs.feeding.Going.{Keeping, Going, going-none, going-length, going-held, going-ended, goes-number, goes-room, stopped-early, stopped-late}
+use Rattle.listing.specs.Listing.{heldIn, goesOn, endOf, Lined}
+use Rattle.listing.proofs.feeding.Ends.{Ended, ended-at}
+use Rattle.listing.proofs.feeding.Going.{behind-all, lined-length}
+use Rattle.listing.proofs.feeding.Whole.{whole-within, held-off, held-more, held-ends, ended-fill, ended-lined}
+use borrow.Author.Needs.{needs}
 use Rattle.listing.proofs.feeding.feed_held.Statement.{statement}
 use Rattle.listing.proofs.feeding.feed_held.Tie as tie
 
-abbrev Inv-loop : tie.InvT-loop
-Inv-loop input row₀ fresh card₀ held₀ number₀ written₀ i₀ row card held number written i = (bytes : List ℕ) → Keeping bytes card₀ held₀ → Going bytes number₀ input row₀ row card held number written i
+-- the bytes held are no more than a piece can have before its end
+short : (c : tie.After-refill) → length (heldIn (c .before .before .before .before .args .bench .queue)) ≤ 40
+short c = omega (arith, c .refill .ensures .count, c .before .before .before .before .pre)
 
-abbrev μ-loop : tie.MeasureT-loop
-μ-loop input row₀ fresh card₀ held₀ number₀ written₀ i₀ row card held number written i = length input - i
+refill-requires : tie.Need-refill-requires
+refill-requires c κs = search needs
 
--- the first card holds the bytes of the bench
-begun : (c : tie.After-refill Inv-loop μ-loop) → Keeping (heldIn (c .before .before .before .before .before .args .bench .queue)) (c .refill .result) (c .before .before .before .before .before .args .bench .queue .fill)
-begun c =
-    let r = c .refill .ensures in
-    record { card = r .card; bytes = r .bytes; count = sym (r .count); short = omega (arith, r .count, c .before .before .before .before .before .pre) }
+goes-on-requires : tie.Need-goes-on-requires
+goes-on-requires c κs = search needs
 
-going : (c : tie.At-loop Inv-loop μ-loop) →
-    Going (heldIn (c .before .before .before .before .before .before .args .bench .queue)) (c .before .before .before .before .before .before .args .bench .number) (c .before .before .before .before .before .before .args .input .now) (c .before .before .before .before .before .before .args .row .now) (c .loop .row) (c .loop .card) (c .loop .held) (c .loop .number) (c .loop .written) (c .loop .i)
-going c = c .loop .inv _ (begun (c .before))
+stop-requires : tie.Need-stop-requires
+stop-requires c κs = search needs
 
-length-going : (c : tie.At-loop Inv-loop μ-loop) → length (c .loop .row) ≡ length (c .before .before .before .before .before .before .args .row .now)
-length-going c = going-length _ _ _ _ _ _ _ _ _ _ (going c)
+returns : tie.Need-returns
+returns c =
+    let r = c .before .before .before in
+    held-off _ _ _ _ _ _ (r .refill .ensures .card) (r .refill .ensures .bytes) (short r) refl (sym (c .before .before .goes-on .ensures) ∙ not-true _ (c .before .if1 .taken)) (c .stop .ensures)
 
-fresh-card-requires : tie.Need-fresh-card-requires Inv-loop μ-loop
-fresh-card-requires c κs = tt
+end-of-requires : tie.Need-end-of-requires
+end-of-requires c κs = search needs
 
-refill-requires : tie.Need-refill-requires Inv-loop μ-loop
-refill-requires c κs = c .before .before .before .before .pre
+hold-requires : tie.Need-hold-requires
+hold-requires c κs = search needs
 
-loop-holds : tie.Need-loop-holds Inv-loop μ-loop
-loop-holds c = λ bytes h. going-none bytes _ _ _ _ _ h
+stop-requires-2 : tie.Need-stop-requires-2
+stop-requires-2 c κs = search needs
 
-sub-goes-on : tie.Need-sub-goes-on Inv-loop μ-loop
-sub-goes-on c = let g = going (c .before) in omega (arith, g .fits, length-going (c .before))
+-- where the piece ends, or does not
+counted : (c : tie.After-end-of) → c .end-of .result ≡ endOf (length (heldIn (c .before .before .before .before .before .before .before .args .bench .queue))) (c .before .before .before .before .before .before .before .args .input .now)
+counted c = c .end-of .ensures ∙ ap (λ (k : ℕ). endOf k (c .before .before .before .before .before .before .before .args .input .now)) (sym (c .before .before .before .refill .ensures .count))
 
-goes-on-requires : tie.Need-goes-on-requires Inv-loop μ-loop
-goes-on-requires c κs = tt
+goes : (c : tie.After-end-of) → goesOn (c .before .before .before .before .before .before .before .args .bench .number) (length (c .before .before .before .before .before .before .before .args .row .now)) ≡ true
+goes c = sym (c .before .before .goes-on .ensures) ∙ not-false _ (c .before .if1 .left)
 
-stop-requires : tie.Need-stop-requires Inv-loop μ-loop
-stop-requires c κs = tt
+returns-2 : tie.Need-returns-2
+returns-2 c =
+    let e = c .before .before .before in
+    let r = e .before .before .before in
+    held-more _ _ _ _ _ _ (r .refill .ensures .card) (r .refill .ensures .bytes) (short r) refl (goes e) (sym (counted e) ∙ c .before .before .if2 .taken) _ (c .before .hold .ensures .card) (c .before .hold .ensures .bytes) (c .stop2 .ensures)
 
-same-length : tie.Need-same-length Inv-loop μ-loop
-same-length c = length-going (c .before .before .before .before)
+ends : (c : tie.Else2) → Ended (heldIn (c .before .before .before .before .before .before .before .before .args .bench .queue)) (c .before .before .before .before .before .before .before .before .args .input .now) (c .before .end-of .result)
+ends c = ended-at _ _ _ (counted (c .before)) (c .if2 .left)
 
-returns : tie.Need-returns Inv-loop μ-loop
-returns c = stopped-early _ _ _ _ _ _ _ _ _ (going (c .before .before .before .before)) (c .before .before .before .loop-test .taken) (sym (c .before .before .goes-on .ensures) ∙ not-true _ (c .before .if1 .taken)) _ (c .stop .ensures)
+sub-hold : tie.Need-sub-hold
+sub-hold c = search needs
 
-shared-slice-read-b : tie.Need-shared-slice-read-b Inv-loop μ-loop
-shared-slice-read-b c = omega arith
+part-hold-start : tie.Need-part-hold-start
+part-hold-start c = search needs
 
-add-i : tie.Need-add-i Inv-loop μ-loop
-add-i c = omega arith
+part-hold-end : tie.Need-part-hold-end
+part-hold-end c = ends c .within
 
-is-last-requires : tie.Need-is-last-requires Inv-loop μ-loop
-is-last-requires c κs = tt
+hold-requires-2 : tie.Need-hold-requires-2
+hold-requires-2 c κs = search needs
 
-write-byte-requires : tie.Need-write-byte-requires Inv-loop μ-loop
-write-byte-requires c κs = tt
+-- the queue with the whole piece
+front : (n : ℕ) (xs : List ℕ) → take (n - 0) xs ≡ take n xs
+front n xs = ap (λ (k : ℕ). take k xs) (let e : n - 0 ≡ n = omega arith in e)
 
-add-held : tie.Need-add-held Inv-loop μ-loop
-add-held c = let g = going (c .before .before .before .before .before .before) in omega (arith, g .holds .count, g .holds .short)
+fill : (c : tie.After-hold2) → c .hold2 .result .queue .fill ≡ length (heldIn (c .before .before .before .before .before .before .before .before .before .before .args .bench .queue)) + c .before .before .before .end-of .result
+fill c =
+    let e = c .before .before in
+    let r = c .before .before .before .before .before .before in
+    ended-fill _ _ _ (ends e) (short r) _ _ (r .refill .ensures .card) (r .refill .ensures .bytes) _ (front (e .before .end-of .result) (r .before .before .before .before .args .input .now)) (c .hold2 .ensures .card) (c .hold2 .ensures .bytes)
 
-put-answer-requires : tie.Need-put-answer-requires Inv-loop μ-loop
-put-answer-requires c κs = let g = going (c .before .before .before .before .before .before .before .before) in omega (arith, g .fits, length-going (c .before .before .before .before .before .before .before .before), goes-room _ _ (sym (c .before .before .before .before .before .before .goes-on .ensures) ∙ not-false _ (c .before .before .before .before .before .if1 .left)))
+lined : (c : tie.After-list-held) →
+    Lined (c .before .before .before .before .before .before .before .before .before .before .before .before .before .args .bench .number) (c .before .before .before .before .before .before .before .before .before .before .before .before .before .args .row .now) 0 (c .list-held .last .1 .1 .0) (c .list-held .result .number) (c .list-held .result .written) ((heldIn (c .before .before .before .before .before .before .before .before .before .before .before .before .before .args .bench .queue) ++ take (c .before .before .before .before .before .before .end-of .result) (c .before .before .before .before .before .before .before .before .before .before .before .before .before .args .input .now)) ∷ [])
+lined c =
+    let h = c .before .before .before in
+    let e = c .before .before .before .before .before in
+    let r = c .before .before .before .before .before .before .before .before .before in
+    ended-lined _ _ _ (ends e) (short r) _ _ (r .refill .ensures .card) (r .refill .ensures .bytes) _ (front (e .before .end-of .result) (r .before .before .before .before .args .input .now)) (h .hold2 .ensures .card) (h .hold2 .ensures .bytes) _ _ _ _ (c .list-held .ensures)
 
-add-number : tie.Need-add-number Inv-loop μ-loop
-add-number c = omega (arith, goes-number _ _ (sym (c .before .before .before .before .before .before .before .before .before .goes-on .ensures) ∙ not-false _ (c .before .before .before .before .before .before .before .before .if1 .left)))
+list-held-requires : tie.Need-list-held-requires
+list-held-requires c κs = let h = c .before .before in (omega (arith, fill h, ends (h .before .before) .short (short (h .before .before .before .before .before .before))), goes (h .before .before .before))
 
-loop-less : tie.Need-loop-less Inv-loop μ-loop
-loop-less c = omega arith
+sub-feed-whole : tie.Need-sub-feed-whole
+sub-feed-whole c = ends (c .before .before .before .before .before .before .before) .within
 
-loop-again : tie.Need-loop-again Inv-loop μ-loop
-loop-again c =
-    λ bytes h.
-    going-ended bytes _ _ _ _ _ _ _ _ _ _ _ (c .before .before .before .before .before .before .before .before .before .before .before .loop .inv bytes h) (c .before .before .before .before .before .before .before .before .before .before .loop-test .taken) refl (omega (arith, c .before .before .before .before .before .before .before .shared-slice-known2 .given (c .before .before .before .before .before .before .before .before .before .before .before .loop .i)))
-    (sym (c .before .before .before .before .before .before .before .before .before .goes-on .ensures) ∙ not-false _ (c .before .before .before .before .before .before .before .before .if1 .left)) _ (c .before .before .before .before .before .before .is-last .ensures) (c .before .before .before .before .before .write-byte .ensures) (c .before .before .before .before .if2 .taken) _ (c .before .before .before .before .before .before .before .before .before .before .before .before .before .before .fresh-card .ensures) _ _ (c .before .before .put-answer .ensures)
+part-feed-whole-start : tie.Need-part-feed-whole-start
+part-feed-whole-start c = ends (c .before .before .before .before .before .before .before) .within
 
-loop-less-2 : tie.Need-loop-less-2 Inv-loop μ-loop
-loop-less-2 c = omega arith
+part-feed-whole-end : tie.Need-part-feed-whole-end
+part-feed-whole-end c = search needs
 
-loop-again-2 : tie.Need-loop-again-2 Inv-loop μ-loop
-loop-again-2 c =
-    λ bytes h.
-    going-held bytes _ _ _ _ _ _ _ _ _ _ _ (c .before .before .before .before .before .before .before .loop .inv bytes h) (c .before .before .before .before .before .before .loop-test .taken) refl (omega (arith, c .before .before .before .shared-slice-known2 .given (c .before .before .before .before .before .before .before .loop .i)))
-    (sym (c .before .before .before .before .before .goes-on .ensures) ∙ not-false _ (c .before .before .before .before .if1 .left)) _ (c .before .before .is-last .ensures) (c .before .write-byte .ensures) (c .if2 .left)
+feed-whole-requires : tie.Need-feed-whole-requires
+feed-whole-requires c κs = omega (arith, lined (c .before .before .before .before) .fits, lined-length _ _ _ _ _ _ _ (lined (c .before .before .before .before)))
 
-stop-requires-2 : tie.Need-stop-requires-2 Inv-loop μ-loop
-stop-requires-2 c κs = tt
+add-t15 : tie.Need-add-t15
+add-t15 c =
+    let e = c .before .before .before .before .before .before .before .before .before .before .before .before .before .before in
+    let xs = c .before .before .before .before .before .before .before .before .before .before .before .before .before .before .before .before .before .before .before .before .before .before .args .input .now in
+    let k = e .before .end-of .result in
+    let w = whole-within _ (take (length xs - k) (drop k xs)) _ _ _ _ (c .before .before .before .before .feed-whole .ensures) in
+    omega (arith, ends e .within, w, ap length (behind-all k xs), length-drop k xs)
 
-same-length-2 : tie.Need-same-length-2 Inv-loop μ-loop
-same-length-2 c = length-going (c .before .before)
+same-length : tie.Need-same-length
+same-length c = search needs
 
-returns-2 : tie.Need-returns-2 Inv-loop μ-loop
-returns-2 c = stopped-late _ _ _ _ _ _ _ _ _ (going (c .before .before)) (c .before .loop-test .left) _ (c .stop2 .ensures)
+returns-3 : tie.Need-returns-3
+returns-3 c =
+    let l = c .before .before .before .before .before .before .before .before .before in
+    let e = c .before .before .before .before .before .before .before .before .before .before .before .before .before .before in
+    let r = c .before .before .before .before .before .before .before .before .before .before .before .before .before .before .before .before .before .before in
+    held-ends _ _ _ _ _ _ (r .refill .ensures .card) (r .refill .ensures .bytes) (short r) (goes (e .before)) _ (ends e) _ _ _ (lined l) _ (behind-all (e .before .end-of .result) (c .before .before .before .before .before .before .before .before .before .before .before .before .before .before .before .before .before .before .before .before .before .before .args .input .now)) _ (c .before .before .before .before .feed-whole .ensures) refl
 
 pub feed-held-spec : {M : Type 1} → statement M
 feed-held-spec =
     tie.close
     (tie.spec
-    Inv-loop
-    μ-loop
-    fresh-card-requires
     refill-requires
-    loop-holds
-    sub-goes-on
     goes-on-requires
     stop-requires
-    same-length
     returns
-    shared-slice-read-b
-    add-i
-    is-last-requires
-    write-byte-requires
-    add-held
-    put-answer-requires
-    add-number
-    loop-less
-    loop-again
-    loop-less-2
-    loop-again-2
+    end-of-requires
+    hold-requires
     stop-requires-2
-    same-length-2
-    returns-2)
+    returns-2
+    sub-hold
+    part-hold-start
+    part-hold-end
+    hold-requires-2
+    list-held-requires
+    sub-feed-whole
+    part-feed-whole-start
+    part-feed-whole-end
+    feed-whole-requires
+    add-t15
+    same-length
+    returns-3)

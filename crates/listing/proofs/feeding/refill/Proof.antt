@@ -1,59 +1,48 @@
--- `feeding::refill` meets its contract. The invariant: the card is filled with the first bytes of the queue's 64. The measure is what is left of them.
+-- `feeding::refill` meets its contract: the lent part is what stands in the queue.
 -- Assumes nothing.
-use Prim.Native.Nat.{_-_, _≤_}
-use mathlib.Core.Path.{_≡_}
+use Prim.Native.Nat.{ℕ, _-_}
+use mathlib.Core.Path.{_≡_, ap, ap₂, _∙_}
+use mathlib.Core.List.{List}
 use native.Mathlib.Omega.{arith}
-use lib.ListN.{length}
-use borrow.Author.Needs.{needs}
-use Rattle.listing.proofs.feeding.Fresh.{Filled, filled-none, filled-more, filled-all}
+use lib.ListN.{length, take}
+use lib.Seq.{length-take-le}
+use Rattle.wire.specs.Digits.{below}
+use Rattle.card.specs.declared.card.Card.{Card}
+use Rattle.laws.specs.Calls.{fed}
+use borrow.Author.Needs.{needs, length-unmapped}
 use Rattle.listing.proofs.feeding.refill.Statement.{statement}
 use Rattle.listing.proofs.feeding.refill.Tie as tie
 
-abbrev Inv-loop : tie.InvT-loop
-Inv-loop bytes fill card₀ i₀ card i = (i ≤ fill) × (length bytes ≡ 64) × Filled bytes card i
+fresh-card-requires : tie.Need-fresh-card-requires
+fresh-card-requires c κs = search needs
 
-abbrev μ-loop : tie.MeasureT-loop
-μ-loop bytes fill card₀ i₀ card i = fill - i
+sub-hold : tie.Need-sub-hold
+sub-hold c = search needs
 
-fresh-card-requires : tie.Need-fresh-card-requires Inv-loop μ-loop
-fresh-card-requires c κs = tt
+part-hold-start : tie.Need-part-hold-start
+part-hold-start c = search needs
 
-loop-holds : tie.Need-loop-holds Inv-loop μ-loop
-loop-holds c = (omega arith, search needs, filled-none _ _ (c .fresh-card .ensures))
+part-hold-end : tie.Need-part-hold-end
+part-hold-end c =
+    let l : length (c .before .before .before .args .queue .bytes) ≡ 64 = search needs in
+    omega arith
 
-byte-of-requires : tie.Need-byte-of-requires Inv-loop μ-loop
-byte-of-requires c κs = omega arith
+hold-requires : tie.Need-hold-requires
+hold-requires c κs = search needs
 
-write-byte-requires : tie.Need-write-byte-requires Inv-loop μ-loop
-write-byte-requires c κs = tt
-
-add-i : tie.Need-add-i Inv-loop μ-loop
-add-i c = omega arith
-
-loop-less : tie.Need-loop-less Inv-loop μ-loop
-loop-less c = omega arith
-
-loop-again : tie.Need-loop-again Inv-loop μ-loop
-loop-again c =
-    let v = c .before .before .before .loop .inv in
-    (omega arith, v .1, filled-more _ _ _ _ _ (v .2) (omega (arith, v .1)) (omega (arith, c .before .byte-of .ok)) (c .before .byte-of .ensures) (c .write-byte .ensures))
-
-returns : tie.Need-returns Inv-loop μ-loop
+returns : tie.Need-returns
 returns c =
-    let v = c .before .loop .inv in
-    filled-all _ _ _ (v .2) (v .0) (c .loop-test .left) (omega (arith, v .1, c .before .before .before .before .pre))
+    let d = c .before .before .before .before .before in
+    let q = d .args .queue in
+    let l : length (q .bytes) ≡ 64 = length-unmapped ℕ (q .bytes) 64 (d .good .0 .1 .1 .0 .1 .0 .1) in
+    let f : q .fill - 0 ≡ q .fill = omega arith in
+    record {
+      card = c .hold .ensures .card ∙ ap₂ (λ (k : Card) (n : ℕ). fed k (take n (q .bytes))) (c .before .before .before .fresh-card .ensures) f;
+      bytes = rw f at (c .hold .ensures .bytes);
+      count = length-take-le (q .fill) (q .bytes) (omega (arith, l, d .pre));
+    }
 
 pub refill-spec : {M : Type 1} → statement M
 refill-spec =
     tie.close
-    (tie.spec
-    Inv-loop
-    μ-loop
-    fresh-card-requires
-    loop-holds
-    byte-of-requires
-    write-byte-requires
-    add-i
-    loop-less
-    loop-again
-    returns)
+    (tie.spec fresh-card-requires sub-hold part-hold-start part-hold-end hold-requires returns)
