@@ -1,4 +1,6 @@
 // Feeding an input part by part: each byte to FIFO of its piece's own fresh card, and 0x80 to ACK where the piece ends.
+use crate::lines::digits_of;
+use crate::lines::first_of;
 use crate::lines::put_line;
 use card::card::Card;
 use card::registers::write_register;
@@ -55,7 +57,9 @@ fn put_answer(card: Card, number: u64, row: &mut [u8], at: usize) -> usize
     ensures { λ r. ⌜ PutLine (now (row .entry)) at number (writeRegister card 12 0x80 .number) (now (row .exit)) r ⌝ }
 {
     let a = write_register(card, 12, 0x80);
-    put_line(number, a.number, row, at)
+    let digits = digits_of(number);
+    let first = first_of(&digits);
+    put_line(&digits, first, a.number, row, at)
 }
 
 // A byte of a queue.
