@@ -10,10 +10,10 @@ use native.Mathlib.Omega.{arith}
 use lib.ListN.{length, take, drop, getD, set, replicate, length-append, length-set, length-replicate, take-append-drop, drop-of-length-le, replicate-append-replicate, List·getD-append}
 use lib.Seq.{take-suc, set-at, take-at, take-take, take-append-le, getD-at, length-take-le}
 use borrow.Author.Tests.{ne-eqb, lt-ltb}
-use Rattle.wire.specs.Digits.{pick, digits, num, below}
+use Rattle.wire.specs.Digits.{digits, num, below}
 use Rattle.wire.specs.Packets.{ascii}
 use Rattle.wire.proofs.digits.Laws.{lt-or-le, and-left, below-at, below-both, below-append, below-more, zeros-below, digits-length, digits-below, written, read, num-append}
-use Rattle.listing.specs.Listing.{trimmed, inDecimal, allNines, First, Spelled}
+use Rattle.listing.specs.Listing.{trimmed, inDecimal, allNines, First, Spelled, PutLine}
 
 -- zeros with one more behind them
 zeros-more : (k : ℕ) → _++_ {A = ℕ} (replicate k 0) (0 ∷ []) ≡ replicate (suc k) 0
@@ -93,31 +93,6 @@ spelled-decimal n ds first s =
     (ap trimmed (sym (spelled-digits n ds first s))
     ∙ trimmed-at ds first (omega (arith, s .count, s .place .within)) (s .place .zeros) (λ h. s .place .some (omega (arith, s .count))))
 
--- FOR A CALLER
-
--- the digits found for a number, with the first of them, spell it
-pub begun : (n : ℕ) (ds : List ℕ) (first : ℕ) → n < 18446744073709551616 → ds ≡ digits 10 20 n → First ds first → Spelled n ds first
-begun n ds first h e f =
-    record {
-      number = ap (num 10) e ∙ written 10 (omega arith) 20 n (let q : n < 10 ^ 20 = omega arith in q);
-      count = ap length e ∙ digits-length 10 (omega arith) 20 n;
-      each = ap (below 10) e ∙ digits-below 10 (omega arith) 20 n;
-      place = f;
-    }
-
-pub found-count : (n : ℕ) (ds : List ℕ) → ds ≡ digits 10 20 n → length ds ≡ 20
-found-count n ds e = ap length e ∙ digits-length 10 (omega arith) 20 n
-
--- digits that spell a number spell the one that they write
-pub own : (n : ℕ) (ds : List ℕ) (first : ℕ) → Spelled n ds first → Spelled (num 10 ds) ds first
-own n ds first s = rw (← s .number) at s
-
-pub not-all-nines : (n : ℕ) (ds : List ℕ) (first : ℕ) → Spelled n ds first → n < 18446744073709551615 → num 10 ds < allNines
-not-all-nines n ds first s h = omega (arith, s .number)
-
-pub next : (n : ℕ) (ds es : List ℕ) (first r : ℕ) → Spelled n ds first → Spelled (suc (num 10 ds)) es r → Spelled (suc n) es r
-next n ds es first r s t = rw (s .number) at t
-
 -- CARRYING
 
 -- the nines behind place i are zeros now, and the digit at place i is the next
@@ -156,10 +131,10 @@ unfolding num
 zeros-num zero = refl
 zeros-num (suc k) = omega (arith, zeros-num k)
 
-pub carried-digit : (before now : List ℕ) (i : ℕ) (c : Carried before now i) → getD now i 0 ≡ c .digit
+carried-digit : (before now : List ℕ) (i : ℕ) (c : Carried before now i) → getD now i 0 ≡ c .digit
 carried-digit before now i c = ap (λ (l : List ℕ). getD l i 0) (c .row) ∙ getD-at (c .front) (c .digit) (replicate (c .nines) 0) 0 i (c .place)
 
-pub carried-length : (before now : List ℕ) (i : ℕ) → Carried before now i → length now ≡ 20
+carried-length : (before now : List ℕ) (i : ℕ) → Carried before now i → length now ≡ 20
 carried-length before now i c =
     omega (arith, ap length (c .row), length-append (c .front) (c .digit ∷ replicate (c .nines) 0), length-replicate {A = ℕ} (c .nines) 0, c .place, c .sum)
 
@@ -304,3 +279,34 @@ module _ (before now : List ℕ) (first i n : ℕ) (s : Spelled n before first) 
             omega (arith, v))
             (lt-or-le first i);
       })
+
+-- FOR A CALLER THAT COUNTS
+
+pub found-count : (n : ℕ) (ds : List ℕ) → ds ≡ digits 10 20 n → length ds ≡ 20
+found-count n ds e = ap length e ∙ digits-length 10 (omega arith) 20 n
+
+-- the digits found for a number, with the first of them, spell it
+pub begun : (n : ℕ) (ds : List ℕ) (first : ℕ) → n < 18446744073709551616 → ds ≡ digits 10 20 n → First ds first → Spelled n ds first
+begun n ds first h e f =
+    record {
+      number = ap (num 10) e ∙ written 10 (omega arith) 20 n (let q : n < 10 ^ 20 = omega arith in q);
+      count = found-count n ds e;
+      each = ap (below 10) e ∙ digits-below 10 (omega arith) 20 n;
+      place = f;
+    }
+
+module _ (n : ℕ) (ds : List ℕ) (first : ℕ) (s : Spelled n ds first) where
+  -- digits that spell a number spell the one that they write
+  pub own : Spelled (num 10 ds) ds first
+  own = rw (← s .number) at s
+
+  pub not-all-nines : n < 18446744073709551615 → num 10 ds < allNines
+  not-all-nines h = omega (arith, s .number)
+
+  -- counted up, they spell the next
+  pub next : (es : List ℕ) (r : ℕ) → Spelled (suc (num 10 ds)) es r → Spelled (suc n) es r
+  next es r t = rw (s .number) at t
+
+  -- and their line is that of the number
+  pub lined : (before : List ℕ) (at answer : ℕ) (after : List ℕ) (r : ℕ) → PutLine before at (num 10 ds) answer after r → PutLine before at n answer after r
+  lined before at answer after r t = rw (s .number) at t

@@ -2,10 +2,9 @@
 -- By induction on the number of digits. Assumes nothing.
 use Prim.Native.Nat.{ℕ, zero, suc, _+_, _*_, _-_, _/_, _%_, _^_, _≤_, _<_}
 use mathlib.Core.Path.{_≡_, refl, sym, ap, ap₂, _∙_}
-use mathlib.Core.Logic.{⊎-elim}
 use mathlib.Core.Bool.{Bool, true, false}
 use mathlib.Core.List.{List, [], _∷_, _++_, append-assoc}
-use native.Mathlib.Nat.{pow-suc, one-le-pow, pow-le-pow-right, div-eq-of-lt, div-lt-iff-lt-mul, le-div-iff-mul-le, div-div-eq-div-mul, lt-of-lt-of-le, mul-comm, div-one}
+use native.Mathlib.Nat.{pow-suc, one-le-pow, pow-le-pow-right, div-eq-of-lt, div-lt-iff-lt-mul, le-div-iff-mul-le, lt-of-lt-of-le, mul-comm}
 use native.Mathlib.Numerals.{add-one}
 use native.Mathlib.Omega.{arith}
 use lib.Dec.{eqb}
@@ -14,7 +13,7 @@ use lib.Seq.{take-all, take-suc, getD-drop, take-at, drop-at, drop-drop, length-
 use borrow.Author.Tests.{ne-eqb}
 use Rattle.wire.specs.Digits.{pick, digits}
 use Rattle.wire.specs.Packets.{ascii}
-use Rattle.wire.proofs.digits.Laws.{digits-length, lt-or-le}
+use Rattle.wire.proofs.digits.Laws.{digits-length}
 use Rattle.listing.specs.Listing.{trimmed, inDecimal, line, placed, Put, PutLine}
 
 pos : (k : ℕ) → 0 < 10 ^ k
@@ -27,7 +26,7 @@ unfolding trimmed digits
 skip-one n k h = simp (div-eq-of-lt h)
 
 -- digits above a number are zeros
-pub skip : (m n k : ℕ) → n < 10 ^ suc k → trimmed (digits 10 (m + suc k) n) ≡ trimmed (digits 10 (suc k) n)
+skip : (m n k : ℕ) → n < 10 ^ suc k → trimmed (digits 10 (m + suc k) n) ≡ trimmed (digits 10 (suc k) n)
 skip zero n k h = ap (λ (x : ℕ). trimmed (digits 10 x n)) (let e : 0 + suc k ≡ suc k = omega arith in e)
 skip (suc m) n k h =
     let e : suc m + suc k ≡ suc (suc (m + k)) = omega arith in
@@ -72,7 +71,7 @@ three-digits n g h =
 
 -- LENGTHS
 
-pub ascii-length : (ds : List ℕ) → length (ascii ds) ≡ length ds
+ascii-length : (ds : List ℕ) → length (ascii ds) ≡ length ds
 unfolding ascii
 ascii-length [] = refl
 ascii-length (d ∷ ds) = ap suc (ascii-length ds)
@@ -125,11 +124,11 @@ module _ (row : List ℕ) (at : ℕ) where
       ∙ append-assoc (take at row) s (t ++ drop (at + length (s ++ t)) row)
       ∙ ap (λ (l : List ℕ). take at row ++ l) (sym (append-assoc s t (drop (at + length (s ++ t)) row)))
 
-  pub placed-byte : (b : ℕ) → at < length row → set row at b ≡ placed row at (b ∷ [])
+  placed-byte : (b : ℕ) → at < length row → set row at b ≡ placed row at (b ∷ [])
   placed-byte b h = set-split row at b h ∙ ap (λ (x : ℕ). take at row ++ (b ∷ drop x row)) (sym (add-one at))
 
 -- one text behind another
-pub put-twice : (a b c : List ℕ) (at r q : ℕ) (s t : List ℕ) → Put a at s b r → Put b r t c q → at + length s + length t ≤ length a → Put a at (s ++ t) c q
+put-twice : (a b c : List ℕ) (at r q : ℕ) (s t : List ℕ) → Put a at s b r → Put b r t c q → at + length s + length t ≤ length a → Put a at (s ++ t) c q
 put-twice a b c at r q s t x y h =
     record {
       row = y .row ∙ ap₂ (λ (l : List ℕ) (n : ℕ). placed l n t) (x .row) (x .behind) ∙ placed-twice a at s t h;
@@ -185,9 +184,6 @@ module _ (ds : List ℕ) (first : ℕ) (before : List ℕ) (at : ℕ) where
       }
 
   module _ (now : List ℕ) (i to : ℕ) (c : Copied ds first before at now i to) where
-    text : List ℕ
-    text = ascii (take (c .done) (drop first ds))
-
     text-length : length (ascii (take (c .done) (drop first ds))) ≡ c .done
     text-length =
         ascii-length (take (c .done) (drop first ds))
