@@ -189,7 +189,7 @@ tableLines n (p ∷ ps) = line n (packetRefusal p) ++ tableLines (suc n) ps
 
 -- WITHIN THE CRATE
 
--- where a number's first written digit stands: zeros before it, and a digit that is none, unless it is the last
+-- where a number's first written digit stands: only zeros before it, and no zero there, unless it is the last place
 pub record First (ds : List ℕ) (first : ℕ) : Type 0 where
   pub within : first < 20
   pub zeros : take first ds ≡ replicate first 0
