@@ -1,12 +1,12 @@
 -- The bench's listing: standard input cut into pieces, and for each piece its number and the answer of a fresh card of its own.
-use Prim.Native.Nat.{ℕ, zero, suc, _+_, _-_, _≤_, _<_, _^_}
+use Prim.Native.Nat.{ℕ, zero, suc, _+_, _-_, _≤_, _<_}
 use mathlib.Core.Path.{_≡_}
 use mathlib.Core.Bool.{Bool, true, false, _&&_, _||_}
 use mathlib.Core.List.{List, [], _∷_, _++_}
 use mathlib.Core.Logic.{_⊎_}
-use lib.ListN.{length, take, drop, replicate}
+use lib.ListN.{length, take, drop, getD, replicate}
 use lib.Dec.{leb, ltb, eqb}
-use Rattle.wire.specs.Digits.{pick, digits, below}
+use Rattle.wire.specs.Digits.{pick, digits, num, below}
 use Rattle.wire.specs.Packets.{ascii, has, packetRefusal}
 use Rattle.parts.specs.declared.queue.Queue.{Queue}
 use Rattle.card.specs.declared.card.Card.{Card}
@@ -190,12 +190,22 @@ tableLines n (p ∷ ps) = line n (packetRefusal p) ++ tableLines (suc n) ps
 
 -- WITHIN THE CRATE
 
--- k is how many decimal digits n has
-pub record Places (n k : ℕ) : Type 0 where
-  pub some : 0 < k
-  pub few : k ≤ 20
-  pub holds : n < 10 ^ k
-  pub none-less : (j : ℕ) → k ≡ suc (suc j) → 10 ^ suc j ≤ n
+-- where a number's first written digit stands: only zeros before it, and no zero there, unless it is the last place
+pub record First (ds : List ℕ) (first : ℕ) : Type 0 where
+  pub within : first < 20
+  pub zeros : take first ds ≡ replicate first 0
+  pub some : first < 19 → 0 < getD ds first 0
+
+-- a number as twenty decimal digits, and the place of the first that is written
+pub record Spelled (n : ℕ) (ds : List ℕ) (first : ℕ) : Type 0 where
+  pub number : num 10 ds ≡ n
+  pub count : length ds ≡ 20
+  pub each : below 10 ds ≡ true
+  pub place : First ds first
+
+-- the largest number that twenty digits spell
+abbrev pub allNines : ℕ
+allNines = 99999999999999999999
 
 -- a text was put at a place, and r is the place behind it
 pub record Put (before : List ℕ) (at : ℕ) (text after : List ℕ) (r : ℕ) : Type 0 where

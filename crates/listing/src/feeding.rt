@@ -1,4 +1,7 @@
 // Feeding an input part by part: each piece to FIFO of its own fresh card, and then 0x80 to ACK. What is not at its end is held in a card's queue.
+use crate::lines::count_up;
+use crate::lines::digits_of;
+use crate::lines::first_of;
 use crate::lines::put_line;
 use card::block::write_block;
 use card::card::Card;
@@ -130,6 +133,8 @@ fn list(fresh: Card, input: &[u8], first: usize, number: u64, row: &mut [u8], at
     requires { ⌜ (fresh ≡ freshCard) × (first ≤ length (now input)) × (at ≤ length (now row)) × (0 < first → goesOn number (length (now row) - at) ≡ true) ⌝ }
     ensures { λ r. ⌜ Lists (now (input .entry)) first number (now (row .entry)) at (now (row .exit)) r ⌝ }
 {
+    let mut digits = digits_of(number);
+    let mut place = first_of(&digits);
     let mut next = number;
     let mut written = at;
     let mut i: usize = 0;
@@ -137,7 +142,8 @@ fn list(fresh: Card, input: &[u8], first: usize, number: u64, row: &mut [u8], at
     while 0 < n {
         let end = i + n;
         let answer = answer_of(fresh, &input[i..end]);
-        written = put_line(next, answer, row, written);
+        written = put_line(&digits, place, answer, row, written);
+        place = count_up(&mut digits, place);
         next += 1;
         i = end;
         n = next_end(&input[i..], next, row.len() - written);

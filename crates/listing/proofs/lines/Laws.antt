@@ -1,63 +1,23 @@
--- Lines: a number's decimal digits, counted and written from the last one on, and texts put one behind the other.
+-- Lines: a number in decimal, and texts put one behind the other.
 -- By induction on the number of digits. Assumes nothing.
 use Prim.Native.Nat.{ℕ, zero, suc, _+_, _*_, _-_, _/_, _%_, _^_, _≤_, _<_}
 use mathlib.Core.Path.{_≡_, refl, sym, ap, ap₂, _∙_}
-use mathlib.Core.Logic.{⊎-elim}
 use mathlib.Core.Bool.{Bool, true, false}
 use mathlib.Core.List.{List, [], _∷_, _++_, append-assoc}
-use native.Mathlib.Nat.{pow-suc, one-le-pow, pow-le-pow-right, div-eq-of-lt, div-lt-iff-lt-mul, le-div-iff-mul-le, div-div-eq-div-mul, lt-of-lt-of-le, mul-comm, div-one}
+use native.Mathlib.Nat.{pow-suc, one-le-pow, pow-le-pow-right, div-eq-of-lt, div-lt-iff-lt-mul, le-div-iff-mul-le, lt-of-lt-of-le, mul-comm}
 use native.Mathlib.Numerals.{add-one}
 use native.Mathlib.Omega.{arith}
 use lib.Dec.{eqb}
-use lib.ListN.{length, take, drop, getD, set, length-append, length-drop, take-append-drop}
-use lib.Seq.{take-suc, set-at, take-at, drop-at, drop-drop, length-take-le, set-split}
+use lib.ListN.{length, take, drop, getD, set, length-append, length-drop, length-set, take-append-drop}
+use lib.Seq.{take-all, take-suc, getD-drop, take-at, drop-at, drop-drop, length-take-le, set-split}
 use borrow.Author.Tests.{ne-eqb}
 use Rattle.wire.specs.Digits.{pick, digits}
 use Rattle.wire.specs.Packets.{ascii}
-use Rattle.wire.proofs.digits.Laws.{digits-length, lt-or-le}
-use Rattle.listing.specs.Listing.{trimmed, inDecimal, line, placed, Places, Put, PutLine}
+use Rattle.wire.proofs.digits.Laws.{digits-length}
+use Rattle.listing.specs.Listing.{trimmed, inDecimal, line, placed, Put, PutLine}
 
 pos : (k : ℕ) → 0 < 10 ^ k
 pos k = one-le-pow k 10 (omega arith)
-
--- COUNTING DIGITS
-
--- k digits are counted, and `left` stands above them
-pub record Counted (n k left : ℕ) : Type 0 where
-  pub above : left ≡ n / 10 ^ k
-  pub some : 0 < k
-  pub few : k ≤ 20
-  pub none-less : (j : ℕ) → k ≡ suc (suc j) → 10 ^ suc j ≤ n
-
-pub counted-one : (n : ℕ) → Counted n 1 (n / 10)
-counted-one n = record { above = refl; some = omega arith; few = omega arith; none-less = λ j e. absurd (omega arith) }
-
-reaches : (n k : ℕ) → 0 < n / 10 ^ k → 10 ^ k ≤ n
-reaches n k h = ⊎-elim (λ l. absurd (let z : n / 10 ^ k ≡ 0 = div-eq-of-lt l in omega arith)) (λ g. g) (lt-or-le n (10 ^ k))
-
-small-power : (n k : ℕ) → n < 18446744073709551616 → 10 ^ k ≤ n → k < 20
-small-power n k b h =
-    ⊎-elim (λ l. l) (λ g. absurd (let p : 10 ^ 20 ≤ 10 ^ k = pow-le-pow-right (omega arith) g in omega arith)) (lt-or-le k 20)
-
-pub counted-more : (n k left : ℕ) → Counted n k left → 0 < left → n < 18446744073709551616 → Counted n (k + 1) (left / 10)
-counted-more n k left c h b =
-    let r : 10 ^ k ≤ n = reaches n k (let q : 0 < n / 10 ^ k = omega (arith, c .above) in q) in
-    let f = small-power n k b r in
-    record {
-      above = ap (λ (x : ℕ). x / 10) (c .above) ∙ div-div-eq-div-mul n (10 ^ k) 10 ∙ ap (λ (x : ℕ). n / x) (let e : 10 ^ k * 10 ≡ 10 ^ (k + 1) = rw (add-one k) (sym (pow-suc 10 k)) in e);
-      some = omega arith;
-      few = omega arith;
-      none-less = λ j e. let q : k ≡ suc j = omega arith in rw (← q) r;
-    }
-
-pub counted-all : (n k left : ℕ) → Counted n k left → left ≤ 0 → Places n k
-counted-all n k left c h =
-    record {
-      some = c .some;
-      few = c .few;
-      holds = let q : n < 1 * 10 ^ k = div-lt-iff-lt-mul (pos k) .0 (let z : n / 10 ^ k < 1 = omega (arith, c .above) in z) in omega arith;
-      none-less = c .none-less;
-    }
 
 -- DIGITS WITHOUT ZEROS IN FRONT
 
@@ -66,7 +26,7 @@ unfolding trimmed digits
 skip-one n k h = simp (div-eq-of-lt h)
 
 -- digits above a number are zeros
-pub skip : (m n k : ℕ) → n < 10 ^ suc k → trimmed (digits 10 (m + suc k) n) ≡ trimmed (digits 10 (suc k) n)
+skip : (m n k : ℕ) → n < 10 ^ suc k → trimmed (digits 10 (m + suc k) n) ≡ trimmed (digits 10 (suc k) n)
 skip zero n k h = ap (λ (x : ℕ). trimmed (digits 10 x n)) (let e : 0 + suc k ≡ suc k = omega arith in e)
 skip (suc m) n k h =
     let e : suc m + suc k ≡ suc (suc (m + k)) = omega arith in
@@ -87,20 +47,31 @@ unfolding trimmed digits
 no-zero n zero h l = refl
 no-zero n (suc j) h l = simp (ne-eqb (n / 10 ^ suc j % 10) 0 (first-digit n j (l j refl) h))
 
-spelled-digits : (n k : ℕ) → Places n k → trimmed (digits 10 20 n) ≡ digits 10 k n
-spelled-digits n zero p = absurd (omega (arith, p .some))
-spelled-digits n (suc k) p =
-    let m = 19 - k in
-    let e : m + suc k ≡ 20 = omega (arith, p .few) in
-    ap (λ (x : ℕ). trimmed (digits 10 x n)) (sym e) ∙ skip m n k (p .holds) ∙ no-zero n k (p .holds) (p .none-less)
-
-pub decimal-digits : (n k : ℕ) → Places n k → inDecimal n ≡ ascii (digits 10 k n)
+-- n has suc k digits
+decimal : (m k n : ℕ) → m + suc k ≡ 20 → n < 10 ^ suc k → ((j : ℕ) → suc k ≡ suc (suc j) → 10 ^ suc j ≤ n) → inDecimal n ≡ ascii (digits 10 (suc k) n)
 unfolding inDecimal
-decimal-digits n k p = ap ascii (spelled-digits n k p)
+decimal m k n e h l = ap ascii (ap (λ (x : ℕ). trimmed (digits 10 x n)) (sym e) ∙ skip m n k h ∙ no-zero n k h l)
+
+pub one-digit : (n : ℕ) → n < 10 → inDecimal n ≡ (48 + n) ∷ []
+unfolding digits ascii
+one-digit n h = decimal 19 0 n refl (let q : n < 10 ^ 1 = omega arith in q) (λ j e. absurd (omega arith)) ∙ ap (λ (x : ℕ). (48 + x) ∷ []) (let e : n / 10 ^ 0 % 10 ≡ n = omega arith in e)
+
+pub two-digits : (n : ℕ) → 10 ≤ n → n < 100 → inDecimal n ≡ (48 + n / 10) ∷ (48 + n % 10) ∷ []
+unfolding digits ascii
+two-digits n g h =
+    decimal 18 1 n refl (let q : n < 10 ^ 2 = omega arith in q) (λ j e. let z : j ≡ 0 = omega arith in rw z (let q : 10 ^ 1 ≤ n = omega arith in q))
+    ∙ ap₂ (λ (x y : ℕ). (48 + x) ∷ (48 + y) ∷ []) (let e : n / 10 ^ 1 % 10 ≡ n / 10 = omega arith in e) (let e : n / 10 ^ 0 % 10 ≡ n % 10 = omega arith in e)
+
+pub three-digits : (n : ℕ) → 100 ≤ n → n < 256 → inDecimal n ≡ (48 + n / 100) ∷ (48 + n / 10 % 10) ∷ (48 + n % 10) ∷ []
+unfolding digits ascii
+three-digits n g h =
+    decimal 17 2 n refl (let q : n < 10 ^ 3 = omega arith in q) (λ j e. let z : j ≡ 1 = omega arith in rw z (let q : 10 ^ 2 ≤ n = omega arith in q))
+    ∙ ap₂ (λ (x : ℕ) (l : List ℕ). (48 + x) ∷ l) (let e : n / 10 ^ 2 % 10 ≡ n / 100 = omega arith in e)
+    (ap₂ (λ (x y : ℕ). (48 + x) ∷ (48 + y) ∷ []) (let e : n / 10 ^ 1 % 10 ≡ n / 10 % 10 = omega arith in e) (let e : n / 10 ^ 0 % 10 ≡ n % 10 = omega arith in e))
 
 -- LENGTHS
 
-pub ascii-length : (ds : List ℕ) → length (ascii ds) ≡ length ds
+ascii-length : (ds : List ℕ) → length (ascii ds) ≡ length ds
 unfolding ascii
 ascii-length [] = refl
 ascii-length (d ∷ ds) = ap suc (ascii-length ds)
@@ -114,9 +85,6 @@ unfolding trimmed
 trimmed-length [] = omega arith
 trimmed-length (d ∷ []) = omega arith
 trimmed-length (d ∷ e ∷ ds) = trimmed-step (eqb d 0) (trimmed (e ∷ ds)) (d ∷ e ∷ ds) (omega (arith, trimmed-length (e ∷ ds)))
-
-pub digits-decimal : (n k : ℕ) → Places n k → length (inDecimal n) ≡ k
-digits-decimal n k p = ap length (decimal-digits n k p) ∙ ascii-length (digits 10 k n) ∙ digits-length 10 (omega arith) k n
 
 pub decimal-length : (n : ℕ) → length (inDecimal n) ≤ 20
 unfolding inDecimal
@@ -156,75 +124,106 @@ module _ (row : List ℕ) (at : ℕ) where
       ∙ append-assoc (take at row) s (t ++ drop (at + length (s ++ t)) row)
       ∙ ap (λ (l : List ℕ). take at row ++ l) (sym (append-assoc s t (drop (at + length (s ++ t)) row)))
 
-  pub placed-byte : (b : ℕ) → at < length row → set row at b ≡ placed row at (b ∷ [])
+  placed-byte : (b : ℕ) → at < length row → set row at b ≡ placed row at (b ∷ [])
   placed-byte b h = set-split row at b h ∙ ap (λ (x : ℕ). take at row ++ (b ∷ drop x row)) (sym (add-one at))
 
--- WRITING DIGITS
-
--- the digits from place i on are written, and `left` stands above them
-pub record Spelled (n at k : ℕ) (before now : List ℕ) (left i : ℕ) : Type 0 where
-  pub spelled : ℕ
-  pub sum : i + spelled ≡ k
-  pub fits : at + k ≤ length before
-  pub above : left ≡ n / 10 ^ spelled
-  pub row : now ≡ take (at + i) before ++ (ascii (digits 10 spelled n) ++ drop (at + k) before)
-
-pub spelled-none : (n at k : ℕ) (row : List ℕ) → at + k ≤ length row → Spelled n at k row row n k
-unfolding digits ascii
-spelled-none n at k row h =
-    record {
-      spelled = 0;
-      sum = omega arith;
-      fits = h;
-      above = sym (div-one n);
-      row = sym (take-append-drop (at + k) row);
-    }
-
-pub spelled-more : (n at k : ℕ) (before now : List ℕ) (left i : ℕ) → Spelled n at k before now left i → 0 < i →
-    Spelled n at k before (set now (at + (i - 1)) (48 + left % 10)) (left / 10) (i - 1)
-unfolding digits ascii
-spelled-more n at k before now left i s p =
-    let m = at + (i - 1) in
-    let e : at + i ≡ suc m = omega arith in
-    let l : m < length before = omega (arith, s .sum, s .fits) in
-    let text = ascii (digits 10 (s .spelled) n) ++ drop (at + k) before in
-    let split : take (at + i) before ++ text ≡ take m before ++ (getD before m 0 ∷ text) =
-    ap (λ (x : ℕ). take x before ++ text) e ∙ ap (λ (x : List ℕ). x ++ text) (take-suc before m 0 l) ∙ append-assoc (take m before) (getD before m 0 ∷ []) text in
-    record {
-      spelled = suc (s .spelled);
-      sum = omega (arith, s .sum);
-      fits = s .fits;
-      above = ap (λ (x : ℕ). x / 10) (s .above) ∙ div-div-eq-div-mul n (10 ^ s .spelled) 10 ∙ ap (λ (x : ℕ). n / x) (sym (pow-suc 10 (s .spelled)));
-      row =
-          ap (λ (x : List ℕ). set x m (48 + left % 10)) (s .row ∙ split)
-          ∙ set-at (take m before) (getD before m 0) text (48 + left % 10) m (length-take-le m before (omega arith))
-          ∙ ap (λ (x : ℕ). take m before ++ ((48 + x % 10) ∷ text)) (s .above);
-    }
-
-pub spelled-all : (n at k : ℕ) (before now : List ℕ) (left i : ℕ) → Places n k → Spelled n at k before now left i → i ≤ 0 → Put before at (inDecimal n) now (at + k)
-spelled-all n at k before now left i p s h =
-    let e : i ≡ 0 = omega arith in
-    let d : s .spelled ≡ k = omega (arith, s .sum) in
-    record {
-      row =
-          s .row
-          ∙ ap₂ (λ (x y : ℕ). take x before ++ (ascii (digits 10 y n) ++ drop (at + k) before)) (let q : at + i ≡ at = omega arith in q) d
-          ∙ ap₂ (λ (x : List ℕ) (y : ℕ). take at before ++ (x ++ drop (at + y) before)) (sym (decimal-digits n k p)) (sym (digits-decimal n k p));
-      behind = omega (arith, digits-decimal n k p);
-    }
-
-pub spelled-length : (n at k : ℕ) (before now : List ℕ) (left i : ℕ) → Spelled n at k before now left i → length now ≡ length before
-spelled-length n at k before now left i s =
-    omega
-    (arith, ap length (s .row), length-append (take (at + i) before) (ascii (digits 10 (s .spelled) n) ++ drop (at + k) before), length-append (ascii (digits 10 (s .spelled) n)) (drop (at + k) before), ascii-length (digits 10 (s .spelled) n), digits-length 10 (omega arith) (s .spelled) n, length-take-le (at + i) before (omega (arith, s .sum, s .fits)), length-drop (at + k) before, s .sum, s .fits)
-
 -- one text behind another
-pub put-twice : (a b c : List ℕ) (at r q : ℕ) (s t : List ℕ) → Put a at s b r → Put b r t c q → at + length s + length t ≤ length a → Put a at (s ++ t) c q
+put-twice : (a b c : List ℕ) (at r q : ℕ) (s t : List ℕ) → Put a at s b r → Put b r t c q → at + length s + length t ≤ length a → Put a at (s ++ t) c q
 put-twice a b c at r q s t x y h =
     record {
       row = y .row ∙ ap₂ (λ (l : List ℕ) (n : ℕ). placed l n t) (x .row) (x .behind) ∙ placed-twice a at s t h;
       behind = omega (arith, y .behind, x .behind, length-append s t);
     }
+
+-- bytes stored one behind the other
+pub stored-one : (row : List ℕ) (at x : ℕ) → at < length row → Put row at (x ∷ []) (set row at x) (at + 1)
+stored-one row at x h = record { row = placed-byte row at x h; behind = refl }
+
+pub stored-two : (row : List ℕ) (at x y : ℕ) → at + 2 ≤ length row → Put row at (x ∷ y ∷ []) (set (set row at x) (at + 1) y) (at + 2)
+stored-two row at x y h =
+    let z : at + 1 + 1 ≡ at + 2 = omega arith in
+    rw z at
+    (put-twice row (set row at x) (set (set row at x) (at + 1) y) at (at + 1) (at + 1 + 1) (x ∷ []) (y ∷ []) (stored-one row at x (omega arith))
+    (stored-one (set row at x) (at + 1) y (omega (arith, length-set row at x))) (omega arith))
+
+pub stored-three : (row : List ℕ) (at x y z : ℕ) → at + 3 ≤ length row → Put row at (x ∷ y ∷ z ∷ []) (set (set (set row at x) (at + 1) y) (at + 2) z) (at + 3)
+stored-three row at x y z h =
+    let two = set (set row at x) (at + 1) y in
+    let e : at + 2 + 1 ≡ at + 3 = omega arith in
+    rw e at
+    (put-twice row two (set two (at + 2) z) at (at + 2) (at + 2 + 1) (x ∷ y ∷ []) (z ∷ []) (stored-two row at x y (omega arith))
+    (stored-one two (at + 2) z (omega (arith, length-set row at x, length-set (set row at x) (at + 1) y))) (omega arith))
+
+-- DIGITS IN A ROW
+
+ascii-append : (ds es : List ℕ) → ascii (ds ++ es) ≡ ascii ds ++ ascii es
+unfolding ascii
+ascii-append [] es = refl
+ascii-append (d ∷ ds) es = ap (λ (l : List ℕ). (48 + d) ∷ l) (ascii-append ds es)
+
+-- the digits from place `first` up to place i are put
+pub record Copied (ds : List ℕ) (first : ℕ) (before : List ℕ) (at : ℕ) (now : List ℕ) (i to : ℕ) : Type 0 where
+  pub done : ℕ
+  pub sum : first + done ≡ i
+  pub count : length ds ≡ 20
+  pub few : i ≤ 20
+  pub fits : at + length (drop first ds) ≤ length before
+  pub put : Put before at (ascii (take done (drop first ds))) now to
+
+module _ (ds : List ℕ) (first : ℕ) (before : List ℕ) (at : ℕ) where
+  pub copied-none : length ds ≡ 20 → first ≤ 20 → at + length (drop first ds) ≤ length before → Copied ds first before at before first at
+  unfolding ascii
+  copied-none l f h =
+      record {
+        done = 0;
+        sum = omega arith;
+        count = l;
+        few = f;
+        fits = h;
+        put = record { row = sym (put-none before at); behind = omega arith };
+      }
+
+  module _ (now : List ℕ) (i to : ℕ) (c : Copied ds first before at now i to) where
+    text-length : length (ascii (take (c .done) (drop first ds))) ≡ c .done
+    text-length =
+        ascii-length (take (c .done) (drop first ds))
+        ∙ length-take-le (c .done) (drop first ds) (omega (arith, length-drop first ds, c .count, c .few, c .sum))
+
+    pub copied-place : to + (20 - i) ≤ length before
+    copied-place = omega (arith, text-length, c .put .behind, length-drop first ds, c .count, c .few, c .sum, c .fits)
+
+    pub copied-length : length now ≡ length before
+    copied-length =
+        ap length (c .put .row)
+        ∙ placed-length before at (ascii (take (c .done) (drop first ds))) (omega (arith, text-length, length-drop first ds, c .count, c .few, c .sum, c .fits))
+
+    pub copied-more : i < 20 → Copied ds first before at (set now to (48 + getD ds i 0)) (i + 1) (to + 1)
+    unfolding ascii
+    copied-more h =
+        let k = c .done in
+        let rest = drop first ds in
+        let size : length rest ≡ 20 - first = omega (arith, length-drop first ds, c .count) in
+        let byte = stored-one now to (48 + getD ds i 0) (omega (arith, copied-place, copied-length)) in
+        let digit : getD rest k 0 ≡ getD ds i 0 = getD-drop first ds k 0 ∙ ap (λ (x : ℕ). getD ds x 0) (c .sum) in
+        let one-more : ascii (take k rest) ++ ((48 + getD ds i 0) ∷ []) ≡ ascii (take (suc k) rest) =
+        ap (λ (x : ℕ). ascii (take k rest) ++ ((48 + x) ∷ [])) (sym digit)
+        ∙ sym (ap ascii (take-suc rest k 0 (omega (arith, c .sum))) ∙ ascii-append (take k rest) (getD rest k 0 ∷ [])) in
+        record {
+          done = suc k;
+          sum = omega (arith, c .sum);
+          count = c .count;
+          few = omega arith;
+          fits = c .fits;
+          put =
+              rw one-more at
+              (put-twice before now (set now to (48 + getD ds i 0)) at to (to + 1) (ascii (take k rest)) ((48 + getD ds i 0) ∷ []) (c .put) byte
+              (omega (arith, text-length, c .sum, c .fits)));
+        }
+
+    pub copied-all : 20 ≤ i → Put before at (ascii (drop first ds)) now to
+    copied-all h =
+        let all : take (c .done) (drop first ds) ≡ drop first ds = take-all (c .done) (drop first ds) (omega (arith, length-drop first ds, c .count, c .sum)) in
+        rw all at (c .put)
 
 -- the four texts of a line
 pub put-line : (a b c d e : List ℕ) (at p q r s n answer : ℕ) → at + 25 ≤ length a → answer < 256 →

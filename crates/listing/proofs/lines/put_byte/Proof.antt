@@ -1,8 +1,7 @@
 -- `lines::put_byte` meets its contract: one store.
 -- Assumes nothing.
-use mathlib.Core.Path.{refl}
 use borrow.Author.Needs.{needs}
-use Rattle.listing.proofs.lines.Laws.{placed-byte}
+use Rattle.listing.proofs.lines.Laws.{stored-one}
 use Rattle.listing.proofs.lines.put_byte.Statement.{statement}
 use Rattle.listing.proofs.lines.put_byte.Tie as tie
 
@@ -16,7 +15,7 @@ same-length : tie.Need-same-length
 same-length c = search needs
 
 returns : tie.Need-returns
-returns c = record { row = placed-byte _ _ _ (c .pre); behind = refl }
+returns c = stored-one _ _ _ (c .pre)
 
 pub put-byte-spec : {M : Type 1} → statement M
 put-byte-spec = tie.close (tie.spec slice-write-row add-result same-length returns)
