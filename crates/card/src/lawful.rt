@@ -1,4 +1,5 @@
-// 18: whether a card is lawful. Cheapest tests first; each part answers for its own ranges.
+// 18: whether a card is lawful: each part answers for its own ranges. The queue, whose test takes longest, comes before the small parts: theirs are made while
+// its bytes are under way.
 use crate::card::Card;
 use clock::lawful::clock_fits;
 use parts::event::latches_fit;
@@ -12,6 +13,10 @@ ghost use Rattle.card.specs.Lawful.{restLawful, lawful};
 pub(crate) fn rest_fits(card: Card) -> bool
     ensures { λ r. ⌜ r ≡ restLawful card ⌝ }
 {
+    let queue = card.queue;
+    if !queue_fits(queue) {
+        return false;
+    }
     let interrupts = card.interrupts;
     if !interrupts_fit(interrupts) {
         return false;
@@ -25,20 +30,16 @@ pub(crate) fn rest_fits(card: Card) -> bool
     }
     let time_latch = card.time_latch;
     let event_latch = card.event.latch;
-    if !latches_fit(time_latch, event_latch) {
-        return false;
-    }
-    let queue = card.queue;
-    queue_fits(queue)
+    latches_fit(time_latch, event_latch)
 }
 
 // Whether any call takes this card. Asked first in each of them.
 pub fn is_lawful(card: Card) -> bool
     ensures { λ r. ⌜ r ≡ lawful card ⌝ }
 {
-    if !rest_fits(card) {
+    let clock = card.clock;
+    if !clock_fits(clock) {
         return false;
     }
-    let clock = card.clock;
-    clock_fits(clock)
+    rest_fits(card)
 }
