@@ -5,17 +5,17 @@ use mathlib.Core.Path.{_≡_, refl, sym, ap, _∙_}
 use mathlib.Core.Bool.{Bool, true, false}
 use mathlib.Core.List.{List, [], _∷_, _++_}
 use mathlib.Core.Logic.{⊎-elim, _↔_}
-use native.Mathlib.Nat.{min-le-left, min-le-right, min-eq-left, min-eq-right, le-of-lt}
+use native.Mathlib.Nat.{min-le-right, min-eq-left, min-eq-right, le-of-lt}
 use native.Mathlib.Omega.{arith}
 use lib.Dec.{eqb}
 use lib.ListN.{length, take, drop, set, length-drop}
 use borrow.Author.Tests.{lt-ltb, le-ltb}
-use Rattle.wire.proofs.digits.Laws.{clash, lt-or-le}
+use Rattle.wire.proofs.digits.Laws.{lt-or-le}
 use Rattle.card.specs.declared.card.Card.{Card}
 use Rattle.card.specs.declared.card.Answer.{Answer}
 use Rattle.card.specs.declared.block.BlockAnswer.{BlockAnswer}
 use Rattle.card.specs.Blocks.{blockAnswer, behind, oneByOne, writeBlock, free, finding}
-use Rattle.card.specs.Cards.{answer, withQueue}
+use Rattle.card.specs.Cards.{withQueue}
 use Rattle.card.specs.Lawful.{lawful}
 use Rattle.card.specs.Registers.{writeRegister}
 use Rattle.parts.specs.Queues.{enqueued}

@@ -1,9 +1,9 @@
 -- Bytes put into an empty queue one by one stand there in their order, and nothing else changes, as of a block; so a packet's bytes and then 0x80 to ACK set
 -- what the packet says. Assumes nothing.
 use Prim.Native.Nat.{ℕ, _+_, _-_, _≤_}
-use mathlib.Core.Path.{_≡_, sym, ap, ap₂, subst, _∙_}
+use mathlib.Core.Path.{_≡_, refl, sym, ap, ap₂, subst, _∙_}
 use mathlib.Core.Bool.{true}
-use mathlib.Core.List.{List, [], append-nil}
+use mathlib.Core.List.{List, [], _∷_, _++_, append-nil}
 use native.Mathlib.Nat.{min-eq-right}
 use native.Mathlib.Omega.{arith}
 use lib.ListN.{length, take, replicate}
@@ -31,6 +31,11 @@ use Rattle.card.proofs.registers.Laws.{ack-packet}
 use Rattle.laws.specs.Calls.{Call, after, fed}
 use Rattle.laws.proofs.Blocks.{block-fed}
 use Rattle.laws.proofs.Keeps.{keeps}
+
+-- bytes may be parted anywhere
+pub fed-append : (c : Card) (xs ys : List ℕ) → fed c (xs ++ ys) ≡ fed (fed c xs) ys
+fed-append c [] ys = refl
+fed-append c (x ∷ xs) ys = fed-append (writeRegister c 13 x .card) xs ys
 
 -- ---- an empty queue, filled and taken as a packet
 

@@ -1,6 +1,5 @@
 pub mod Answers
 pub mod Laws
-pub mod Fresh
 pub mod Going
 pub mod Whole
 pub mod Parts

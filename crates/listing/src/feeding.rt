@@ -19,6 +19,9 @@ ghost use Rattle.card.specs.Reset.{freshCard};
 ghost use Rattle.laws.specs.Calls.{fed};
 ghost use Rattle.listing.specs.Listing.{goesOn, benchOf, endOf, nextEnd, Held, Refilled, Lists, ListsHeld, FeedsWhole, Feeds, Feeding, Finishing};
 
+// The number of the first piece.
+const FIRST_NUMBER: u64 = 1;
+
 // The bytes held of a piece that is not at its end, as a card's queue, and the piece's number. No other crate can reach them, so no bench is handed in that
 // no call here has left.
 pub struct Bench {
@@ -49,7 +52,7 @@ pub fn start() -> Bench
             bytes: [0; 64],
             fill: 0,
         },
-        number: 1,
+        number: FIRST_NUMBER,
     }
 }
 

@@ -2,12 +2,12 @@
 use Prim.Native.Nat.{ℕ, zero, suc, _+_, _-_, _%_, _≤_, _<_, min}
 use mathlib.Core.Path.{_≡_, refl, sym, ap, ap₂, _∙_}
 use mathlib.Core.Bool.{Bool, true, false}
-use mathlib.Core.List.{List, [], _∷_, _++_, append-assoc, append-nil}
+use mathlib.Core.List.{List, [], _∷_, _++_, append-assoc}
 use native.Mathlib.Nat.{mod-eq-of-lt, zero-min, min-zero, suc-min-suc, min-le-left, min-le-right, min-eq-left, min-eq-right, le-of-lt}
 use native.Mathlib.Numerals.{add-one}
 use native.Mathlib.Omega.{arith}
 use lib.Dec.{ltb, leb·suc-suc, leb·suc-zero, leb·zero}
-use lib.ListN.{length, take, drop, set, getD, replicate, length-set, length-take, length-drop, take-append-drop}
+use lib.ListN.{length, take, drop, set, getD, replicate, length-set, length-take, length-drop}
 use lib.Seq.{paste, paste-suc, paste-zero, take-suc-set, length-take-le, drop-drop}
 use borrow.Author.Tests.{ltb-true, lt-ltb, le-ltb}
 use Rattle.wire.specs.Digits.{pick, below}

@@ -1,29 +1,20 @@
 -- The loop of listing: which lines stand in the row and how many bytes are taken, piece by piece; and what feeding and finishing answer. Assumes nothing.
 use Prim.Native.Nat.{ℕ, zero, suc, _+_, _-_, _≤_, _<_}
 use mathlib.Core.Path.{_≡_, refl, sym, ap, ap₂, _∙_}
-use mathlib.Core.Bool.{Bool, true, false, _&&_}
+use mathlib.Core.Bool.{Bool, true, false}
 use mathlib.Core.List.{List, [], _∷_, _++_, append-assoc, append-nil}
 use mathlib.Core.Logic.{_⊎_, inl, inr, ⊎-elim}
 use native.Mathlib.Numerals.{add-one}
 use native.Mathlib.Omega.{arith}
 use lib.Dec.{ltb, leb}
-use lib.ListN.{length, take, drop, length-append, length-take, length-drop, drop-of-length-le}
-use lib.Seq.{take-add, drop-drop, drop-cons, length-take-le, take-all}
-use borrow.Author.Tests.{ltb-true, leb-true, le-leb, lt-leb}
-use Rattle.wire.specs.Digits.{pick, below}
+use lib.ListN.{length, take, drop, length-append, length-drop}
+use lib.Seq.{take-add, drop-drop, take-all}
+use borrow.Author.Tests.{ltb-true, leb-true}
 use Rattle.wire.proofs.digits.Laws.{and-left, and-right}
-use Rattle.wire.proofs.packets.Laws.{and-false}
-use Rattle.parts.specs.declared.queue.Queue.{Queue}
-use Rattle.card.specs.declared.card.Card.{Card}
-use Rattle.card.specs.Reset.{freshCard}
-use Rattle.laws.specs.Calls.{fed}
-use Rattle.listing.specs.declared.feeding.Bench.{Bench}
-use Rattle.listing.specs.declared.feeding.Fed.{Fed}
-use Rattle.listing.specs.declared.feeding.Reached.{Reached}
-use Rattle.listing.specs.Listing.{pieces, rest, answerOf, line, lines, queueOf, heldIn, goesOn, takes, placed, PutLine, endOf, nextEnd, Lined, Going, Listing, Lists}
+use Rattle.listing.specs.Listing.{pieces, rest, answerOf, line, lines, goesOn, takes, placed, PutLine, endOf, nextEnd, Lined, Going, Lists}
 use Rattle.listing.proofs.lines.Laws.{placed-twice, placed-length, put-none}
 use Rattle.listing.proofs.feeding.Laws.{rest-append, pieces-append, lines-append}
-use Rattle.listing.proofs.feeding.Ends.{Unended, unended, Ended, ended}
+use Rattle.listing.proofs.feeding.Ends.{Ended, ended}
 
 -- there is a number, and room for a line
 pub goes-number : (n room : ℕ) → goesOn n room ≡ true → n < 18446744073709551615

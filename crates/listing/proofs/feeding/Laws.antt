@@ -3,7 +3,7 @@
 use Prim.Native.Nat.{ℕ, suc, _+_, _≤_, _<_}
 use mathlib.Core.Path.{_≡_, refl, sym, ap, ap₂, _∙_}
 use mathlib.Core.Bool.{Bool, true, false}
-use mathlib.Core.List.{List, [], _∷_, _++_, append-assoc, append-nil}
+use mathlib.Core.List.{List, [], _∷_, _++_, append-assoc}
 use native.Mathlib.Omega.{arith}
 use lib.Dec.{eqb}
 use lib.Arith.{lt-of-le-ne}
@@ -54,17 +54,9 @@ module _ (held xs : List ℕ) (b : ℕ) where
   unfolding rest
   rest-ended e = rest-append held xs (b ∷ []) ∙ simp e
 
-  pub rest-longer : ends (rest held xs) b ≡ false → rest held (xs ++ (b ∷ [])) ≡ rest held xs ++ (b ∷ [])
-  unfolding rest
-  rest-longer e = rest-append held xs (b ∷ []) ∙ simp e
-
   pub pieces-ended : ends (rest held xs) b ≡ true → pieces held (xs ++ (b ∷ [])) ≡ pieces held xs ++ ((rest held xs ++ (b ∷ [])) ∷ [])
   unfolding pieces
   pieces-ended e = pieces-append held xs (b ∷ []) ∙ simp e
-
-  pub pieces-same : ends (rest held xs) b ≡ false → pieces held (xs ++ (b ∷ [])) ≡ pieces held xs
-  unfolding pieces
-  pieces-same e = pieces-append held xs (b ∷ []) ∙ simp (e, append-nil)
 
 -- what is held is shorter than a piece
 pick-short : (t : Bool) (r s : List ℕ) → length r ≤ 40 → (t ≡ false → length s ≤ 40) → length (pick t r s) ≤ 40

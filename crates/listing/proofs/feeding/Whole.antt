@@ -1,12 +1,12 @@
 -- What feeding answers: behind a piece's end, and behind bytes that are held. Assumes nothing.
-use Prim.Native.Nat.{ℕ, zero, suc, _+_, _-_, _≤_, _<_}
+use Prim.Native.Nat.{ℕ, suc, _+_, _-_, _≤_, _<_}
 use mathlib.Core.Path.{_≡_, refl, sym, ap, ap₂, _∙_}
 use mathlib.Core.Bool.{Bool, true, false, _&&_}
 use mathlib.Core.List.{List, [], _∷_, _++_, append-nil}
 use mathlib.Core.Logic.{⊎-elim}
 use native.Mathlib.Omega.{arith}
 use lib.Dec.{leb}
-use lib.ListN.{length, take, drop, length-append, length-drop, length-take, take-append-drop, drop-of-length-le}
+use lib.ListN.{length, take, drop, length-append, length-drop, length-take, take-append-drop, drop-of-length-le, replicate}
 use lib.Seq.{take-add, drop-drop, length-take-le, take-all, take-nil}
 use borrow.Author.Tests.{le-leb, lt-leb}
 use Rattle.wire.specs.Digits.{pick, below}
@@ -16,14 +16,15 @@ use Rattle.parts.specs.declared.queue.Queue.{Queue}
 use Rattle.card.specs.declared.card.Card.{Card}
 use Rattle.card.specs.Reset.{freshCard}
 use Rattle.laws.specs.Calls.{fed}
+use Rattle.laws.proofs.Fed.{fed-append, fed-card}
+use Rattle.laws.proofs.Keeps.{fresh-lawful, fresh-queue}
 use Rattle.listing.specs.declared.feeding.Bench.{Bench}
 use Rattle.listing.specs.declared.feeding.Fed.{Fed}
 use Rattle.listing.specs.declared.feeding.Reached.{Reached}
 use Rattle.listing.specs.Listing.{pieces, rest, answerOf, line, lines, queueOf, heldIn, goesOn, takes, placed, partOf, feed, rowFed, lastPiece, lastLine, endOf, nextEnd, Lined, Going, Listing, Lists, ListsHeld, FeedsWhole, Feeds, Feeding, Finishing}
 use Rattle.listing.proofs.feeding.Laws.{rest-append, pieces-append, lines-append}
-use Rattle.listing.proofs.feeding.Ends.{Unended, unended, Ended, ended}
+use Rattle.listing.proofs.feeding.Ends.{Unended, unended, Ended}
 use Rattle.listing.proofs.lines.Laws.{placed-twice, put-none}
-use Rattle.listing.proofs.feeding.Fresh.{fed-fresh, fed-append}
 use Rattle.listing.proofs.feeding.Parts.{held-again}
 use Rattle.listing.proofs.feeding.Going.{lined-none, lined-length, going-none, next-goes, next-ends}
 
@@ -88,7 +89,9 @@ fed-same q p n m t u w v a b c d =
 
 -- the queue of a card that holds bytes
 held-queue : (held : List ℕ) (c : Card) → c ≡ fed freshCard held → below 256 held ≡ true → length held ≤ 64 → c .queue ≡ queueOf held
-held-queue held c e b h = ap (λ (k : Card). k .queue) (e ∙ fed-fresh held b h)
+held-queue held c e b h =
+    ap (λ (k : Card). k .queue) (e ∙ fed-card held freshCard fresh-lawful fresh-queue h b)
+    ∙ ap (λ (n : ℕ). record { bytes = held ++ replicate (64 - n) 0; fill = n }) (let z : 0 + length held ≡ length held = omega arith in z)
 
 -- no byte is taken for want of room or of a number
 takes-off : (held : List ℕ) (n room : ℕ) (xs : List ℕ) → goesOn n room ≡ false → takes held n room xs ≡ 0

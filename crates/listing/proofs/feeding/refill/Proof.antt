@@ -1,12 +1,10 @@
 -- `feeding::refill` meets its contract: the lent part is what stands in the queue.
 -- Assumes nothing.
 use Prim.Native.Nat.{ℕ, _-_}
-use mathlib.Core.Path.{_≡_, ap, ap₂, _∙_}
-use mathlib.Core.List.{List}
+use mathlib.Core.Path.{_≡_, ap₂, _∙_}
 use native.Mathlib.Omega.{arith}
 use lib.ListN.{length, take}
 use lib.Seq.{length-take-le}
-use Rattle.wire.specs.Digits.{below}
 use Rattle.card.specs.declared.card.Card.{Card}
 use Rattle.laws.specs.Calls.{fed}
 use borrow.Author.Needs.{needs, length-unmapped}
