@@ -186,8 +186,8 @@ SOUND = (
 
 def cards(s):
     """Each torn card through every call, most with arguments that a lawful card would refuse by another number; nothing of the card changes."""
-    calls = (("r", 99), ("w", 99, 0), ("w", 12, 0x81), ("w", 13, 1), ("b", 0, 1, 1), ("b", 65, 1, 1), ("e", 0), ("l",), ("x",), ("p", 4), ("o", 4, 0, 0, 0, 0), ("t", 0, 0, 0, 0, 0), ("d", 1, 1), ("q",),
-             ("s", 1000), ("a", 24, 0, 0, 0), ("z",), ("n", 0, DAY + 1), ("i", 0, DAY + 1))
+    calls = (("r", 99), ("w", 99, 0), ("w", 12, 0x81), ("w", 13, 1), ("b", 0, 1, 1), ("b", 65, 1, 1), ("e", 0), ("l",), ("x",), ("p", 4), ("o", 4, 0, 0, 0, 0),
+             ("t", 0, 0, 0, 0, 0), ("d", 1, 1), ("q",), ("s", 1000), ("a", 24, 0, 0, 0), ("z",), ("n", 0, DAY + 1), ("i", 0, DAY + 1))
     for words, put, values in TORN:
         s.fresh()
         put(s, *values)

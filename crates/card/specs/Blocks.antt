@@ -9,7 +9,7 @@ use Rattle.wire.specs.Numbers.{Line, _if_}
 use Rattle.parts.specs.declared.queue.Queue.{Queue}
 use Rattle.parts.specs.Queues.{queued}
 use Rattle.card.specs.declared.card.Card.{Card}
-use Rattle.card.specs.declared.block.BlockAnswer.{BlockAnswer}
+use Rattle.card.specs.declared.blocks.BlockAnswer.{BlockAnswer}
 use Rattle.card.specs.Lawful.{lawful}
 use Rattle.card.specs.Registers.{writeRegister}
 
@@ -44,6 +44,8 @@ finding q row = min (free q) (length row)
 -- bytes behind the ones that a queue holds, and zeros behind them
 abbrev pub joined : Queue → List ℕ → Queue
 joined q bs = record { bytes = queued q ++ (bs ++ replicate (64 - (q .fill + length bs)) 0); fill = q .fill + length bs }
+
+-- REFUSALS
 
 -- 18, 3 more bytes than free places
 abbrev pub blockLines : Bool → Queue → List ℕ → List Line

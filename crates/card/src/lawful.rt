@@ -1,5 +1,5 @@
-// 18: whether a card is lawful: each part answers for its own ranges. The queue, whose test takes longest, comes before the small parts: theirs are made while
-// its bytes are under way.
+// 18: whether a card is lawful: each part answers for its own ranges. The clock is asked first, then the queue, then the small parts: of the orders that were
+// measured, the fastest.
 use crate::card::Card;
 use clock::lawful::clock_fits;
 use parts::event::latches_fit;

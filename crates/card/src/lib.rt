@@ -2,7 +2,7 @@
 //
 // What is proved: every call answers, for every card that may be handed in and every argument, exactly what its definition in specs/ says: its number, its
 // values, the whole card afterwards and every lent row.
-pub mod block;
+pub mod blocks;
 pub mod card;
 pub mod lawful;
 mod packets;

@@ -13,13 +13,13 @@ use borrow.Author.Tests.{lt-ltb, le-ltb}
 use Rattle.wire.proofs.digits.Laws.{lt-or-le}
 use Rattle.card.specs.declared.card.Card.{Card}
 use Rattle.card.specs.declared.card.Answer.{Answer}
-use Rattle.card.specs.declared.block.BlockAnswer.{BlockAnswer}
+use Rattle.card.specs.declared.blocks.BlockAnswer.{BlockAnswer}
 use Rattle.card.specs.Blocks.{blockAnswer, behind, oneByOne, writeBlock, free, finding}
 use Rattle.card.specs.Cards.{withQueue}
 use Rattle.card.specs.Lawful.{lawful}
 use Rattle.card.specs.Registers.{writeRegister}
 use Rattle.parts.specs.Queues.{enqueued}
-use Rattle.card.proofs.block.Laws.{filled, joins-lawful, free-places, block-18, block-is, block-number}
+use Rattle.card.proofs.blocks.Laws.{filled, joins-lawful, free-places, block-18, block-is, block-number}
 use Rattle.card.proofs.registers.Laws.{queue-within, fifo-18, fifo-3, fifo-joins}
 use Rattle.laws.specs.Calls.{Call, after, fed}
 use Rattle.laws.proofs.Keeps.{keeps}
@@ -46,6 +46,11 @@ block-fed c row = go (lawful c) refl
     go : (t : Bool) → lawful c ≡ t → writeBlock c row .card ≡ fed c row
     go true l = ap (λ (r : BlockAnswer). r .card) (block-is c row l) ∙ sym (fed-filled row c (free (c .queue)) l (free-places (c .queue) (queue-within c l)))
     go false l = ap (λ (r : BlockAnswer). r .card) (sym (block-18 c row (lawful c) refl l)) ∙ sym (fed-unlawful row c l)
+
+-- bytes may be parted anywhere
+pub fed-append : (c : Card) (xs ys : List ℕ) → fed c (xs ++ ys) ≡ fed (fed c xs) ys
+fed-append c [] ys = refl
+fed-append c (x ∷ xs) ys = fed-append (writeRegister c 13 x .card) xs ys
 
 -- ---- what is taken, and what is left
 
@@ -104,7 +109,12 @@ goes : (c : Card) (row : List ℕ) → lawful c ≡ true → writeBlock c row �
 unfolding writeBlock
 goes c row l = simp l
 
--- if the first took all of its part, both end as one
+-- the card is the same in every case
+pub cut-card : (c : Card) (first second : List ℕ) → writeBlock c (first ++ second) .card ≡ writeBlock (writeBlock c first .card) second .card
+cut-card c first second =
+    block-fed c (first ++ second) ∙ fed-append c first second ∙ ap (λ (d : Card). fed d second) (sym (block-fed c first)) ∙ sym (block-fed (writeBlock c first .card) second)
+
+-- and if the first took all of its part, so are number and count
 pub block-cut : (c : Card) (first second : List ℕ) → writeBlock c first .taken ≡ length first
     → writeBlock c (first ++ second) ≡ behind (length first) (writeBlock (writeBlock c first .card) second)
 unfolding after

@@ -1,9 +1,9 @@
 -- Bytes put into an empty queue one by one stand there in their order, and nothing else changes, as of a block; so a packet's bytes and then 0x80 to ACK set
 -- what the packet says. Assumes nothing.
 use Prim.Native.Nat.{ℕ, _+_, _-_, _≤_}
-use mathlib.Core.Path.{_≡_, refl, sym, ap, ap₂, subst, _∙_}
+use mathlib.Core.Path.{_≡_, sym, ap, ap₂, subst, _∙_}
 use mathlib.Core.Bool.{true}
-use mathlib.Core.List.{List, [], _∷_, _++_, append-nil}
+use mathlib.Core.List.{List, [], append-nil}
 use native.Mathlib.Nat.{min-eq-right}
 use native.Mathlib.Omega.{arith}
 use lib.ListN.{length, take, replicate}
@@ -18,7 +18,7 @@ use Rattle.wire.proofs.packets.RoundTrip.{read-written, bytes-below, bytes-few}
 use Rattle.parts.specs.declared.queue.Queue.{Queue}
 use Rattle.card.specs.declared.card.Card.{Card}
 use Rattle.card.specs.declared.card.Answer.{Answer}
-use Rattle.card.specs.declared.block.BlockAnswer.{BlockAnswer}
+use Rattle.card.specs.declared.blocks.BlockAnswer.{BlockAnswer}
 use Rattle.card.specs.Blocks.{finding, joined}
 use Rattle.card.specs.Cards.{answer, withDone, withQueue, withSettings}
 use Rattle.card.specs.Lawful.{lawful}
@@ -26,16 +26,11 @@ use Rattle.parts.specs.Queues.{emptyQueue, queued}
 use Rattle.parts.specs.Settings.{applied}
 use Rattle.card.specs.Packets.{taken, ackRefusal, settingsTaken, acknowledged}
 use Rattle.card.specs.Registers.{writeRefusal, writeRegister, written}
-use Rattle.card.proofs.block.Laws.{block-joined}
+use Rattle.card.proofs.blocks.Laws.{block-joined}
 use Rattle.card.proofs.registers.Laws.{ack-packet}
 use Rattle.laws.specs.Calls.{Call, after, fed}
 use Rattle.laws.proofs.Blocks.{block-fed}
 use Rattle.laws.proofs.Keeps.{keeps}
-
--- bytes may be parted anywhere
-pub fed-append : (c : Card) (xs ys : List ℕ) → fed c (xs ++ ys) ≡ fed (fed c xs) ys
-fed-append c [] ys = refl
-fed-append c (x ∷ xs) ys = fed-append (writeRegister c 13 x .card) xs ys
 
 -- ---- an empty queue, filled and taken as a packet
 

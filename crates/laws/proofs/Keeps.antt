@@ -41,7 +41,7 @@ use Rattle.card.specs.Lawful.{lawful}
 use Rattle.card.specs.Registers.{wordsNow}
 use Rattle.card.specs.Waiting.{waitRefusal, cardAfter}
 use Rattle.card.specs.Reset.{resetCard, freshCard}
-use Rattle.card.proofs.block.Laws.{filled-lawful}
+use Rattle.card.proofs.blocks.Laws.{filled-lawful}
 use Rattle.card.proofs.lawful.Laws.{Parts, parts, whole}
 use Rattle.card.proofs.registers.Laws.{time-lawful, words-read, ack-packet}
 use Rattle.laws.specs.Calls.{Call, after, afterAll}

@@ -1,4 +1,4 @@
--- Laws of all calls together, the continuation of waits, the ends of years, and the page's examples.
+-- Laws of all calls together, blocks, the continuation of waits, the ends of years, and the page's examples.
 pub mod Blocks
 pub mod Demand
 pub mod Examples

@@ -32,7 +32,7 @@ use Rattle.card.specs.Waiting.{waitRefusal, waited}
 use Rattle.card.specs.Reset
 use Rattle.card.specs.Saved
 use Rattle.card.specs.Saved.{saveRefusal}
-use Rattle.card.proofs.block.Laws.{block-number}
+use Rattle.card.proofs.blocks.Laws.{block-number}
 use Rattle.laws.specs.Calls.{Call, number}
 use Rattle.laws.specs.Refusals.{lines}
 use Rattle.laws.proofs.Outcomes.{by}

@@ -26,7 +26,7 @@ use Rattle.clock.specs.Waiting.{passed, listed, fell, waitLines}
 use Rattle.parts.specs.declared.interrupts.Interrupts.{Interrupts}
 use Rattle.card.specs.declared.card.Card.{Card}
 use Rattle.card.specs.declared.card.Answer.{Answer}
-use Rattle.card.specs.declared.block.BlockAnswer.{BlockAnswer}
+use Rattle.card.specs.declared.blocks.BlockAnswer.{BlockAnswer}
 use Rattle.card.specs.declared.registers.Value.{Value}
 use Rattle.card.specs.declared.waiting.WaitedCard.{WaitedCard}
 use Rattle.parts.specs.Events.{withControl}
@@ -48,7 +48,7 @@ use Rattle.card.specs.Reset.{resetCard}
 use Rattle.card.specs.Saved
 use Rattle.parts.specs.Saved.{meaningful, settingsIn}
 use Rattle.card.specs.Saved.{saveRefusal}
-use Rattle.card.proofs.block.Laws.{filled, block-18, block-is}
+use Rattle.card.proofs.blocks.Laws.{filled, block-18, block-is}
 use Rattle.card.proofs.registers.Laws.{ack-packet, queue-within}
 use Rattle.laws.specs.Calls.{Call, after, number}
 use Rattle.laws.specs.Refusals.{Excepted}

@@ -14,7 +14,7 @@ use Rattle.wire.specs.Digits.{pick}
 use Rattle.wire.proofs.digits.Laws.{clash, lt-or-le}
 use Rattle.wire.proofs.packets.Read.{packet-number}
 use Rattle.card.specs.declared.card.Card.{Card}
-use Rattle.card.specs.declared.block.BlockAnswer.{BlockAnswer}
+use Rattle.card.specs.declared.blocks.BlockAnswer.{BlockAnswer}
 use Rattle.card.specs.Blocks.{writeBlock, free}
 use Rattle.card.specs.Lawful.{lawful}
 use Rattle.parts.specs.Queues.{queued}
@@ -24,7 +24,7 @@ use Rattle.card.specs.Registers.{readRefusal, readRegister}
 use Rattle.card.specs.Waiting
 use Rattle.card.specs.Waiting.{waitRefusal, rowWaited}
 use Rattle.card.specs.Saved.{saveRefusal, rowSaved}
-use Rattle.card.proofs.block.Laws.{block-18, block-is, block-number}
+use Rattle.card.proofs.blocks.Laws.{block-18, block-is, block-number}
 use Rattle.card.proofs.registers.Laws.{ack-packet}
 use Rattle.laws.specs.Calls.{Call, after, number, values, lent, left}
 use Rattle.laws.specs.Refusals.{Excepted, beside}

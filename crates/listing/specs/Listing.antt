@@ -9,6 +9,7 @@ use lib.Dec.{leb, ltb, eqb}
 use Rattle.wire.specs.Digits.{pick, digits, num, below}
 use Rattle.wire.specs.Packets.{ascii, has, packetRefusal}
 use Rattle.parts.specs.declared.queue.Queue.{Queue}
+use Rattle.parts.specs.Queues.{queued}
 use Rattle.card.specs.declared.card.Card.{Card}
 use Rattle.card.specs.Registers.{writeRegister}
 use Rattle.card.specs.Reset.{freshCard}
@@ -20,9 +21,13 @@ use Rattle.listing.specs.declared.feeding.Reached.{Reached}
 
 -- CUTTING
 
--- a byte ends the piece of which these bytes are held: it is 0x17, or the 41st
+-- a byte ends the piece of which k bytes are held: it is 0x17, or the 41st
+abbrev pub endsAt : ℕ → ℕ → Bool
+endsAt k b = eqb b 0x17 || eqb k 40
+
+-- the same of the bytes held
 unfoldable pub ends : List ℕ → ℕ → Bool
-ends held b = eqb b 0x17 || eqb (length held) 40
+ends held b = endsAt (length held) b
 
 -- the pieces that an input finishes behind the bytes held
 unfoldable pub pieces : List ℕ → List ℕ → List (List ℕ)
@@ -85,9 +90,6 @@ queueOf held = record { bytes = held ++ replicate (64 - length held) 0; fill = l
 abbrev pub benchOf : List ℕ → ℕ → Bench
 benchOf held n = record { queue = queueOf held; number = n }
 
-abbrev pub heldIn : Queue → List ℕ
-heldIn q = take (q .fill) (q .bytes)
-
 -- FEEDING
 
 -- a line has at most 25 bytes; the number 2 ^ 64 - 1 is not given, so that numbers never wrap
@@ -108,16 +110,16 @@ placed row at text = take at row ++ (text ++ drop (at + length text) row)
 
 -- the part of an input that is taken
 abbrev pub partOf : Bench → List ℕ → ℕ → List ℕ
-partOf b input room = take (takes (heldIn (b .queue)) (b .number) room input) input
+partOf b input room = take (takes (queued (b .queue)) (b .number) room input) input
 
 -- the lines of the pieces that a part finishes
 abbrev pub linesOf : Bench → List ℕ → List ℕ
-linesOf b part = lines (b .number) (pieces (heldIn (b .queue)) part)
+linesOf b part = lines (b .number) (pieces (queued (b .queue)) part)
 
 abbrev pub fedTo : Bench → List ℕ → Fed
 fedTo b part =
     record {
-      bench = benchOf (rest (heldIn (b .queue)) part) (b .number + length (pieces (heldIn (b .queue)) part));
+      bench = benchOf (rest (queued (b .queue)) part) (b .number + length (pieces (queued (b .queue)) part));
       taken = length part;
       written = length (linesOf b part);
     }
@@ -139,7 +141,7 @@ pub record Feeding (b : Bench) (input before after : List ℕ) (r : Fed) : Type 
 
 -- the line of the last rest, if there is one and room for it
 unfoldable pub lastLine : Bench → ℕ → List ℕ
-lastLine b room = pick (leb (b .queue .fill) 40 && goesOn (b .number) room) (lines (b .number) (lastPiece (heldIn (b .queue)))) []
+lastLine b room = pick (leb (b .queue .fill) 40 && goesOn (b .number) room) (lines (b .number) (lastPiece (queued (b .queue)))) []
 
 -- the promise of finishing
 pub record Finishing (b : Bench) (before after : List ℕ) (r : ℕ) : Type 0 where
@@ -225,9 +227,9 @@ onward (suc n) = suc (suc n)
 -- how many bytes at an input's front end the piece of which k are held, 0 if it does not end there
 unfoldable pub endOf : ℕ → List ℕ → ℕ
 endOf k [] = 0
-endOf k (b ∷ bs) = pick (eqb b 0x17 || eqb k 40) 1 (onward (endOf (suc k) bs))
+endOf k (b ∷ bs) = pick (endsAt k b) 1 (onward (endOf (suc k) bs))
 
--- how many bytes the next line is about, where no piece is begun: 0 if none ends, or if its line can't be put
+-- how many bytes the next piece has, where none is begun: 0 if it does not end in the input, or if there is no number or no room for its line
 unfoldable pub nextEnd : ℕ → ℕ → List ℕ → ℕ
 nextEnd n room input = pick (goesOn n room) (endOf 0 input) 0
 
@@ -246,21 +248,23 @@ pub record Going (qs : List (List ℕ)) (n : ℕ) (input before : List ℕ) (at 
   pub left : takes [] (n + length qs) (length before - (at + length (lines n qs))) input ≡ i + takes [] m (length before - w) (drop i input)
 
 -- the piece of k bytes at an input's front was listed, and those behind it, up to one that does not end or has no room for its line
-pub record Listing (input : List ℕ) (k n : ℕ) (before : List ℕ) (at : ℕ) (after : List ℕ) (r : Reached) : Type 0 where
+pub record ListsOn (input : List ℕ) (k n : ℕ) (before : List ℕ) (at : ℕ) (after : List ℕ) (r : Reached) : Type 0 where
   pub behind : ℕ
   pub taken : r .taken ≡ k + behind
   pub going : Going (take k input ∷ []) n (drop k input) before at after (r .number) (r .written) behind
   pub over : nextEnd (r .number) (length before - r .written) (drop (k + behind) input) ≡ 0
 
+-- the same, or nothing if k is 0
 pub record Lists (input : List ℕ) (k n : ℕ) (before : List ℕ) (at : ℕ) (after : List ℕ) (r : Reached) : Type 0 where
   pub none : k ≡ 0 → (after ≡ before) × (r ≡ record { taken = 0; number = n; written = at })
-  pub some : 0 < k → Listing input k n before at after r
+  pub some : 0 < k → ListsOn input k n before at after r
 
 -- the bytes of a queue were listed as one piece
 pub record ListsHeld (q : Queue) (n : ℕ) (before after : List ℕ) (r : Reached) : Type 0 where
-  pub count : length (heldIn q) ≡ q .fill
-  pub none : q .fill ≡ 0 → (after ≡ before) × (r .written ≡ 0)
-  pub some : 0 < q .fill → Lined n before 0 after (r .number) (r .written) (heldIn q ∷ [])
+  pub count : length (queued q) ≡ q .fill
+  pub taken : r .taken ≡ q .fill
+  pub none : q .fill ≡ 0 → (after ≡ before) × (r ≡ record { taken = 0; number = n; written = 0 })
+  pub some : 0 < q .fill → Lined n before 0 after (r .number) (r .written) (queued q ∷ [])
 
 -- what feeding answers where no piece is begun and lines stand before a place
 abbrev pub fedWhole : ℕ → ℕ → List ℕ → Fed
@@ -271,6 +275,7 @@ fedWhole n at part =
       written = at + length (lines n (pieces [] part));
     }
 
+-- the part behind a piece's end was taken, and its lines stand behind those put before
 pub record FeedsWhole (n : ℕ) (input before : List ℕ) (at : ℕ) (after : List ℕ) (r : Fed) : Type 0 where
   pub part : List ℕ
   pub taken : part ≡ take (takes [] n (length before - at) input) input
@@ -284,9 +289,8 @@ pub record Held (before : Card) (bs : List ℕ) (after : Card) : Type 0 where
 
 -- a card with the bytes of a queue written to it, one by one
 pub record Refilled (q : Queue) (c : Card) : Type 0 where
-  pub card : c ≡ fed freshCard (heldIn q)
-  pub bytes : below 256 (heldIn q) ≡ true
-  pub count : length (heldIn q) ≡ q .fill
+  pub held : Held freshCard (queued q) c
+  pub count : length (queued q) ≡ q .fill
 
 -- a part was taken, and the lines of the pieces that it finishes stand in the row
 pub record Feeds (b : Bench) (input before after : List ℕ) (r : Fed) : Type 0 where

@@ -3,21 +3,20 @@ use crate::lines::count_up;
 use crate::lines::digits_of;
 use crate::lines::first_of;
 use crate::lines::put_line;
-use card::block::write_block;
+use card::blocks::write_block;
 use card::card::Card;
 use card::registers::write_register;
 use card::reset::fresh_card;
 use parts::queue::Queue;
 ghost use mathlib.Core.Path.{_≡_};
-ghost use mathlib.Core.Bool.{true, _||_};
+ghost use mathlib.Core.Bool.{true};
 ghost use mathlib.Core.List.{[]};
 ghost use Prim.Native.Nat.{_-_, _≤_, _<_};
-ghost use lib.Dec.{eqb};
 ghost use lib.ListN.{length};
 ghost use Rattle.card.specs.Registers.{writeRegister};
 ghost use Rattle.card.specs.Reset.{freshCard};
 ghost use Rattle.laws.specs.Calls.{fed};
-ghost use Rattle.listing.specs.Listing.{goesOn, benchOf, endOf, nextEnd, Held, Refilled, Lists, ListsHeld, FeedsWhole, Feeds, Feeding, Finishing};
+ghost use Rattle.listing.specs.Listing.{endsAt, goesOn, benchOf, endOf, nextEnd, Held, Refilled, Lists, ListsHeld, FeedsWhole, Feeds, Feeding, Finishing};
 
 // The number of the first piece.
 const FIRST_NUMBER: u64 = 1;
@@ -87,7 +86,7 @@ fn refill(queue: Queue) -> Card
 
 // Whether a byte ends the piece of which so many bytes are held.
 fn is_last(held: usize, b: u8) -> bool
-    ensures { λ r. ⌜ r ≡ (eqb b 0x17 || eqb held 40) ⌝ }
+    ensures { λ r. ⌜ r ≡ endsAt held b ⌝ }
 {
     if b == 0x17 {
         return true;
@@ -120,7 +119,7 @@ fn goes_on(number: u64, room: usize) -> bool
     25 <= room
 }
 
-// How many bytes the next line is about, where no piece is begun: 0 if none ends, or if its line can't be put.
+// How many bytes the next piece has, where none is begun: 0 if it does not end in the input, or if there is no number or no room for its line.
 fn next_end(input: &[u8], number: u64, room: usize) -> usize
     ensures { λ r. ⌜ r ≡ nextEnd number room (now (input .entry)) ⌝ }
 {
@@ -130,23 +129,23 @@ fn next_end(input: &[u8], number: u64, room: usize) -> usize
     0
 }
 
-// Puts the line of the piece at an input's front, which has so many bytes, and those of the pieces behind it. The fresh card is handed in: so it is made once
-// and only read.
-fn list(fresh: Card, input: &[u8], first: usize, number: u64, row: &mut [u8], at: usize) -> Reached
-    requires { ⌜ (fresh ≡ freshCard) × (first ≤ length (now input)) × (at ≤ length (now row)) × (0 < first → goesOn number (length (now row) - at) ≡ true) ⌝ }
-    ensures { λ r. ⌜ Lists (now (input .entry)) first number (now (row .entry)) at (now (row .exit)) r ⌝ }
+// Puts the line of the piece at an input's front, which has so many bytes, and those of the pieces behind it. The fresh card is handed in, so that no piece makes
+// its own.
+fn list(fresh: Card, input: &[u8], front: usize, number: u64, row: &mut [u8], at: usize) -> Reached
+    requires { ⌜ (fresh ≡ freshCard) × (front ≤ length (now input)) × (at ≤ length (now row)) × (0 < front → goesOn number (length (now row) - at) ≡ true) ⌝ }
+    ensures { λ r. ⌜ Lists (now (input .entry)) front number (now (row .entry)) at (now (row .exit)) r ⌝ }
 {
     let mut digits = digits_of(number);
-    let mut place = first_of(&digits);
+    let mut first = first_of(&digits);
     let mut next = number;
     let mut written = at;
     let mut i: usize = 0;
-    let mut n = first;
+    let mut n = front;
     while 0 < n {
         let end = i + n;
         let answer = answer_of(fresh, &input[i..end]);
-        written = put_line(&digits, place, answer, row, written);
-        place = count_up(&mut digits, place);
+        written = put_line(&digits, first, answer, row, written);
+        first = count_up(&mut digits, first);
         next += 1;
         i = end;
         n = next_end(&input[i..], next, row.len() - written);
@@ -200,7 +199,7 @@ fn list_held(queue: Queue, number: u64, row: &mut [u8]) -> Reached
     list(fresh_card(), &bytes[from..fill], fill, number, row, 0)
 }
 
-// The same for a bench that holds no more than a piece can.
+// Feeding, of a bench that holds no more than a piece can.
 fn feed_held(bench: Bench, input: &[u8], row: &mut [u8]) -> Fed
     requires { ⌜ bench .queue .fill ≤ 40 ⌝ }
     ensures { λ r. ⌜ Feeds bench (now (input .entry)) (now (row .entry)) (now (row .exit)) r ⌝ }

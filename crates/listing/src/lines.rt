@@ -1,5 +1,5 @@
 // Lines of the listing, written at a place of a lent row. Every other place stays as it was.
-// Lines are numbered one after the other, so a number is kept as its decimal digits and counted up: no line costs a division for each digit.
+// Lines are numbered one after the other, so a number is kept as its decimal digits and counted up: no line's number costs a division.
 ghost use mathlib.Core.Path.{_≡_};
 ghost use mathlib.Core.List.{[], _∷_};
 ghost use Prim.Native.Nat.{suc, _+_, _≤_, _<_};

@@ -5,7 +5,7 @@ use crate::cards::five_at;
 use crate::cards::format_of;
 use crate::cards::modulation_of;
 use crate::cards::offset_of;
-use card::block::write_block;
+use card::blocks::write_block;
 use card::card::Answer;
 use card::card::Card;
 use card::registers::input_edge;

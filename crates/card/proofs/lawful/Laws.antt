@@ -12,7 +12,6 @@ use Rattle.parts.proofs.event.Laws.{event-is}
 use Rattle.card.specs.declared.card.Card.{Card}
 use Rattle.card.specs.Lawful.{restLawful, lawful}
 
--- tests in the page's order, and in the order in which the code asks them
 none : (q : Bool) → false ≡ (q && false)
 none true = refl
 none false = refl
@@ -24,6 +23,7 @@ last true false q = none q
 last false true q = none q
 last false false q = none q
 
+-- tests in the page's order, and in the order in which the code asks them
 reordered : (i k l t s q : Bool) → (i && ((k && l) && (t && (s && q)))) ≡ (q && (i && (k && (s && (t && l)))))
 reordered false k l t s q = none q
 reordered true false l t s q = none q

@@ -1,4 +1,4 @@
--- The loop of listing: which lines stand in the row and how many bytes are taken, piece by piece; and what feeding and finishing answer. Assumes nothing.
+-- The loop of listing: which lines stand in the row and how many bytes are taken, piece by piece. Assumes nothing.
 use Prim.Native.Nat.{ℕ, zero, suc, _+_, _-_, _≤_, _<_}
 use mathlib.Core.Path.{_≡_, refl, sym, ap, ap₂, _∙_}
 use mathlib.Core.Bool.{Bool, true, false}

@@ -10,7 +10,8 @@ use lib.Seq.{take-at}
 use borrow.Author.Tests.{le-leb}
 use Rattle.listing.specs.declared.feeding.Bench.{Bench}
 use Rattle.listing.specs.declared.feeding.Fed.{Fed}
-use Rattle.listing.specs.Listing.{pieces, rest, lastPiece, lines, header, listing, queueOf, benchOf, heldIn, goesOn, takes, linesOf, fedTo, feed, lastLine, rowFed, placed, Runs, finished, called}
+use Rattle.parts.specs.Queues.{queued}
+use Rattle.listing.specs.Listing.{pieces, rest, lastPiece, lines, header, listing, queueOf, benchOf, goesOn, takes, linesOf, fedTo, feed, lastLine, rowFed, placed, Runs, finished, called}
 use Rattle.listing.proofs.feeding.Laws.{rest-append, pieces-append, lines-append, rest-short}
 
 -- the pieces of an input, behind what is held
@@ -23,7 +24,7 @@ module _ (n : ℕ) (held xs ys : List ℕ) where
       ∙ lines-append n (pieces held xs) (pieces (rest held xs) ys ++ lastPiece (rest (rest held xs) ys))
 
 -- a bench holds the bytes that it was left with
-pub held-again : (held : List ℕ) → heldIn (queueOf held) ≡ held
+pub held-again : (held : List ℕ) → queued (queueOf held) ≡ held
 held-again held = take-at held (replicate (64 - length held) 0) (length held) refl
 
 -- what a call takes, behind the bytes that the call before it left
@@ -47,8 +48,8 @@ some-taken held n room b bs e = rw e (omega arith)
 pub takes-some : (b : Bench) (x : ℕ) (xs : List ℕ) (room : ℕ) → b .queue .fill ≤ 40 → goesOn (b .number) room ≡ true → 0 < feed b (x ∷ xs) room .taken
 unfolding feed
 takes-some b x xs room h g =
-    let t : 0 < takes (heldIn (b .queue)) (b .number) room (x ∷ xs) = some-taken (heldIn (b .queue)) (b .number) room x xs g in
-    simp (le-leb (b .queue .fill) 40 h) (some-front (takes (heldIn (b .queue)) (b .number) room (x ∷ xs)) t)
+    let t : 0 < takes (queued (b .queue)) (b .number) room (x ∷ xs) = some-taken (queued (b .queue)) (b .number) room x xs g in
+    simp (le-leb (b .queue .fill) 40 h) (some-front (takes (queued (b .queue)) (b .number) room (x ∷ xs)) t)
   where
     some-front : (k : ℕ) → 0 < k → 0 < length (take k (x ∷ xs))
     some-front zero l = absurd (omega arith)

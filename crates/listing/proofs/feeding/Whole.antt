@@ -1,4 +1,4 @@
--- What feeding answers: behind a piece's end, and behind bytes that are held. Assumes nothing.
+-- What feeding and finishing answer: behind a piece's end, and behind bytes that are held. Assumes nothing.
 use Prim.Native.Nat.{ℕ, suc, _+_, _-_, _≤_, _<_}
 use mathlib.Core.Path.{_≡_, refl, sym, ap, ap₂, _∙_}
 use mathlib.Core.Bool.{Bool, true, false, _&&_}
@@ -16,12 +16,14 @@ use Rattle.parts.specs.declared.queue.Queue.{Queue}
 use Rattle.card.specs.declared.card.Card.{Card}
 use Rattle.card.specs.Reset.{freshCard}
 use Rattle.laws.specs.Calls.{fed}
-use Rattle.laws.proofs.Fed.{fed-append, fed-card}
+use Rattle.laws.proofs.Blocks.{fed-append}
+use Rattle.laws.proofs.Fed.{fed-card}
 use Rattle.laws.proofs.Keeps.{fresh-lawful, fresh-queue}
 use Rattle.listing.specs.declared.feeding.Bench.{Bench}
 use Rattle.listing.specs.declared.feeding.Fed.{Fed}
 use Rattle.listing.specs.declared.feeding.Reached.{Reached}
-use Rattle.listing.specs.Listing.{pieces, rest, answerOf, line, lines, queueOf, heldIn, goesOn, takes, placed, partOf, feed, rowFed, lastPiece, lastLine, endOf, nextEnd, Lined, Going, Listing, Lists, ListsHeld, FeedsWhole, Feeds, Feeding, Finishing}
+use Rattle.parts.specs.Queues.{queued}
+use Rattle.listing.specs.Listing.{pieces, rest, answerOf, line, lines, queueOf, goesOn, takes, placed, partOf, feed, rowFed, lastPiece, lastLine, endOf, nextEnd, Lined, Going, ListsOn, Lists, ListsHeld, FeedsWhole, Feeds, Feeding, Finishing}
 use Rattle.listing.proofs.feeding.Laws.{rest-append, pieces-append, lines-append}
 use Rattle.listing.proofs.feeding.Ends.{Unended, unended, Ended}
 use Rattle.listing.proofs.lines.Laws.{placed-twice, put-none}
@@ -46,7 +48,7 @@ module _ (input : List ℕ) (k n : ℕ) (before : List ℕ) (at : ℕ) (after : 
     u : Ended [] input k
     u = next-ends n (length before - at) input k e z
 
-    abbrev l : Listing input k n before at after r
+    abbrev l : ListsOn input k n before at after r
     l = s .some z
 
     joined : take (k + l .behind) input ≡ take k input ++ take (l .behind) (drop k input)
@@ -171,7 +173,7 @@ lined-append n before at mid m w ps l after k v qs h =
 
 module _ (b : Bench) (input before after : List ℕ) (r : Fed) where
   abbrev held : List ℕ
-  held = heldIn (b .queue)
+  held = queued (b .queue)
 
   abbrev n : ℕ
   n = b .number
@@ -232,18 +234,20 @@ module _ (b : Bench) (input before after : List ℕ) (r : Fed) where
 -- THE LAST REST
 
 -- the bytes of a queue, as one piece
-pub held-listed : (q : Queue) (n : ℕ) (before after : List ℕ) (r : Reached) (bs : List ℕ) → bs ≡ heldIn q → length bs ≡ q .fill → Lists bs (q .fill) n before 0 after r → ListsHeld q n before after r
+pub held-listed : (q : Queue) (n : ℕ) (before after : List ℕ) (r : Reached) (bs : List ℕ) → bs ≡ queued q → length bs ≡ q .fill → Lists bs (q .fill) n before 0 after r → ListsHeld q n before after r
 unfolding pieces
 held-listed q n before after r bs e h s =
     record {
       count = ap length (sym e) ∙ h;
-      none = λ z. (s .none z .0, ap (λ (x : Reached). x .written) (s .none z .1));
+      taken = ⊎-elim (λ (z : 0 < q .fill). let l = s .some z in omega (arith, l .taken, l .going .within, length-drop (q .fill) bs))
+          (λ (z : q .fill ≤ 0). let e : r .taken ≡ 0 = ap (λ (x : Reached). x .taken) (s .none (omega arith) .1) in omega arith) (lt-or-le 0 (q .fill));
+      none = s .none;
       some = λ z.
           let l = s .some z in
           let d : pieces [] (take (l .behind) (drop (q .fill) bs)) ≡ [] =
           ap (λ (xs : List ℕ). pieces [] (take (l .behind) xs)) (drop-of-length-le bs (let q : length bs ≤ q .fill = omega arith in q)) ∙ ap (pieces []) (take-nil (l .behind)) in
-          let f : take (q .fill) bs ≡ heldIn q = take-all (q .fill) bs (omega arith) ∙ e in
-          let g : (take (q .fill) bs ∷ []) ++ pieces [] (take (l .behind) (drop (q .fill) bs)) ≡ heldIn q ∷ [] = ap₂ (λ (p : List ℕ) (ps : List (List ℕ)). (p ∷ []) ++ ps) f d in
+          let f : take (q .fill) bs ≡ queued q = take-all (q .fill) bs (omega arith) ∙ e in
+          let g : (take (q .fill) bs ∷ []) ++ pieces [] (take (l .behind) (drop (q .fill) bs)) ≡ queued q ∷ [] = ap₂ (λ (p : List ℕ) (ps : List (List ℕ)). (p ∷ []) ++ ps) f d in
           rw g at (l .going .lined);
     }
 
@@ -271,7 +275,7 @@ unfolding lastPiece
 one-piece [] h = absurd (h refl)
 one-piece (b ∷ bs) h = refl
 
-last-lines : (b : Bench) (room : ℕ) (ps : List (List ℕ)) → b .queue .fill ≤ 40 → goesOn (b .number) room ≡ true → lastPiece (heldIn (b .queue)) ≡ ps → lastLine b room ≡ lines (b .number) ps
+last-lines : (b : Bench) (room : ℕ) (ps : List (List ℕ)) → b .queue .fill ≤ 40 → goesOn (b .number) room ≡ true → lastPiece (queued (b .queue)) ≡ ps → lastLine b room ≡ lines (b .number) ps
 unfolding lastLine
 last-lines b room ps h g e = simp (le-leb (b .queue .fill) 40 h, g, e)
 
@@ -287,9 +291,9 @@ last-held b before after r h g s = ⊎-elim some none (lt-or-le 0 (b .queue .fil
 
     some : 0 < b .queue .fill → Finishing b before after (r .written)
     some z =
-        let l : Lined (b .number) before 0 after (r .number) (r .written) (heldIn (b .queue) ∷ []) = s .some z in
-        let t : lastLine b (length before) ≡ lines (b .number) (heldIn (b .queue) ∷ []) =
-        last-lines b (length before) _ h g (one-piece (heldIn (b .queue)) (λ q. omega (arith, s .count))) in
+        let l : Lined (b .number) before 0 after (r .number) (r .written) (queued (b .queue) ∷ []) = s .some z in
+        let t : lastLine b (length before) ≡ lines (b .number) (queued (b .queue) ∷ []) =
+        last-lines b (length before) _ h g (one-piece (queued (b .queue)) (λ q. omega (arith, s .count))) in
         record { answer = rw t (l .written ∙ zero-add _); row = rw t (l .row); written = l .fits }
 
 -- A PIECE THAT ENDS BEHIND BYTES THAT ARE HELD
@@ -308,7 +312,7 @@ module _ (held input : List ℕ) (k : ℕ) (u : Ended held input k) (short : len
 
   pub ended-lined : (n : ℕ) (before after : List ℕ) (r : Reached) → ListsHeld (d .queue) n before after r → Lined n before 0 after (r .number) (r .written) ((held ++ take k input) ∷ [])
   ended-lined n before after r s =
-      let e : heldIn (d .queue) ≡ held ++ take k input = ap heldIn queue ∙ held-again (held ++ bs) ∙ ap (λ (xs : List ℕ). held ++ xs) ebs in
+      let e : queued (d .queue) ≡ held ++ take k input = ap queued queue ∙ held-again (held ++ bs) ∙ ap (λ (xs : List ℕ). held ++ xs) ebs in
       rw e at (s .some (omega (arith, ended-fill, u .some)))
 
 -- FEEDING
@@ -324,6 +328,6 @@ feed-some b input before after r h f =
     record {
       answer = simp (le-leb (b .queue .fill) 40 h) (f .answer);
       row = simp (le-leb (b .queue .fill) 40 h) (f .row);
-      taken = let e : r .taken ≡ length (partOf b input (length before)) = ap (λ (x : Fed). x .taken) (f .answer) in omega (arith, take-within (takes (heldIn (b .queue)) (b .number) (length before) input) input);
+      taken = let e : r .taken ≡ length (partOf b input (length before)) = ap (λ (x : Fed). x .taken) (f .answer) in omega (arith, take-within (takes (queued (b .queue)) (b .number) (length before) input) input);
       written = f .written;
     }

@@ -7,7 +7,8 @@ use mathlib.Core.List.{List, [], _∷_, _++_}
 use native.Mathlib.Omega.{arith}
 use lib.ListN.{length, take, drop, length-drop}
 use borrow.Author.Tests.{not-true, not-false}
-use Rattle.listing.specs.Listing.{heldIn, goesOn, endOf, Lined}
+use Rattle.parts.specs.Queues.{queued}
+use Rattle.listing.specs.Listing.{goesOn, endOf, Lined}
 use Rattle.listing.proofs.feeding.Ends.{Ended, ended-at}
 use Rattle.listing.proofs.feeding.Going.{behind-all, lined-length}
 use Rattle.listing.proofs.feeding.Whole.{whole-within, held-off, held-more, held-ends, ended-fill, ended-lined}
@@ -16,7 +17,7 @@ use Rattle.listing.proofs.feeding.feed_held.Statement.{statement}
 use Rattle.listing.proofs.feeding.feed_held.Tie as tie
 
 -- the bytes held are no more than a piece can have before its end
-short : (c : tie.After-refill) → length (heldIn (c .before .before .before .before .args .bench .queue)) ≤ 40
+short : (c : tie.After-refill) → length (queued (c .before .before .before .before .args .bench .queue)) ≤ 40
 short c = omega (arith, c .refill .ensures .count, c .before .before .before .before .pre)
 
 refill-requires : tie.Need-refill-requires
@@ -31,7 +32,7 @@ stop-requires c κs = search needs
 returns : tie.Need-returns
 returns c =
     let r = c .before .before .before in
-    held-off _ _ _ _ _ _ (r .refill .ensures .card) (r .refill .ensures .bytes) (short r) refl (sym (c .before .before .goes-on .ensures) ∙ not-true _ (c .before .if1 .taken)) (c .stop .ensures)
+    held-off _ _ _ _ _ _ (r .refill .ensures .held .card) (r .refill .ensures .held .bytes) (short r) refl (sym (c .before .before .goes-on .ensures) ∙ not-true _ (c .before .if1 .taken)) (c .stop .ensures)
 
 end-of-requires : tie.Need-end-of-requires
 end-of-requires c κs = search needs
@@ -43,7 +44,7 @@ stop-requires-2 : tie.Need-stop-requires-2
 stop-requires-2 c κs = search needs
 
 -- where the piece ends, or does not
-counted : (c : tie.After-end-of) → c .end-of .result ≡ endOf (length (heldIn (c .before .before .before .before .before .before .before .args .bench .queue))) (c .before .before .before .before .before .before .before .args .input .now)
+counted : (c : tie.After-end-of) → c .end-of .result ≡ endOf (length (queued (c .before .before .before .before .before .before .before .args .bench .queue))) (c .before .before .before .before .before .before .before .args .input .now)
 counted c = c .end-of .ensures ∙ ap (λ (k : ℕ). endOf k (c .before .before .before .before .before .before .before .args .input .now)) (sym (c .before .before .before .refill .ensures .count))
 
 goes : (c : tie.After-end-of) → goesOn (c .before .before .before .before .before .before .before .args .bench .number) (length (c .before .before .before .before .before .before .before .args .row .now)) ≡ true
@@ -53,9 +54,9 @@ returns-2 : tie.Need-returns-2
 returns-2 c =
     let e = c .before .before .before in
     let r = e .before .before .before in
-    held-more _ _ _ _ _ _ (r .refill .ensures .card) (r .refill .ensures .bytes) (short r) refl (goes e) (sym (counted e) ∙ c .before .before .if2 .taken) _ (c .before .hold .ensures .card) (c .before .hold .ensures .bytes) (c .stop2 .ensures)
+    held-more _ _ _ _ _ _ (r .refill .ensures .held .card) (r .refill .ensures .held .bytes) (short r) refl (goes e) (sym (counted e) ∙ c .before .before .if2 .taken) _ (c .before .hold .ensures .card) (c .before .hold .ensures .bytes) (c .stop2 .ensures)
 
-ends : (c : tie.Else2) → Ended (heldIn (c .before .before .before .before .before .before .before .before .args .bench .queue)) (c .before .before .before .before .before .before .before .before .args .input .now) (c .before .end-of .result)
+ends : (c : tie.Else2) → Ended (queued (c .before .before .before .before .before .before .before .before .args .bench .queue)) (c .before .before .before .before .before .before .before .before .args .input .now) (c .before .end-of .result)
 ends c = ended-at _ _ _ (counted (c .before)) (c .if2 .left)
 
 sub-hold : tie.Need-sub-hold
@@ -74,19 +75,19 @@ hold-requires-2 c κs = search needs
 front : (n : ℕ) (xs : List ℕ) → take (n - 0) xs ≡ take n xs
 front n xs = ap (λ (k : ℕ). take k xs) (let e : n - 0 ≡ n = omega arith in e)
 
-fill : (c : tie.After-hold2) → c .hold2 .result .queue .fill ≡ length (heldIn (c .before .before .before .before .before .before .before .before .before .before .args .bench .queue)) + c .before .before .before .end-of .result
+fill : (c : tie.After-hold2) → c .hold2 .result .queue .fill ≡ length (queued (c .before .before .before .before .before .before .before .before .before .before .args .bench .queue)) + c .before .before .before .end-of .result
 fill c =
     let e = c .before .before in
     let r = c .before .before .before .before .before .before in
-    ended-fill _ _ _ (ends e) (short r) _ _ (r .refill .ensures .card) (r .refill .ensures .bytes) _ (front (e .before .end-of .result) (r .before .before .before .before .args .input .now)) (c .hold2 .ensures .card) (c .hold2 .ensures .bytes)
+    ended-fill _ _ _ (ends e) (short r) _ _ (r .refill .ensures .held .card) (r .refill .ensures .held .bytes) _ (front (e .before .end-of .result) (r .before .before .before .before .args .input .now)) (c .hold2 .ensures .card) (c .hold2 .ensures .bytes)
 
 lined : (c : tie.After-list-held) →
-    Lined (c .before .before .before .before .before .before .before .before .before .before .before .before .before .args .bench .number) (c .before .before .before .before .before .before .before .before .before .before .before .before .before .args .row .now) 0 (c .list-held .last .1 .1 .0) (c .list-held .result .number) (c .list-held .result .written) ((heldIn (c .before .before .before .before .before .before .before .before .before .before .before .before .before .args .bench .queue) ++ take (c .before .before .before .before .before .before .end-of .result) (c .before .before .before .before .before .before .before .before .before .before .before .before .before .args .input .now)) ∷ [])
+    Lined (c .before .before .before .before .before .before .before .before .before .before .before .before .before .args .bench .number) (c .before .before .before .before .before .before .before .before .before .before .before .before .before .args .row .now) 0 (c .list-held .last .1 .1 .0) (c .list-held .result .number) (c .list-held .result .written) ((queued (c .before .before .before .before .before .before .before .before .before .before .before .before .before .args .bench .queue) ++ take (c .before .before .before .before .before .before .end-of .result) (c .before .before .before .before .before .before .before .before .before .before .before .before .before .args .input .now)) ∷ [])
 lined c =
     let h = c .before .before .before in
     let e = c .before .before .before .before .before in
     let r = c .before .before .before .before .before .before .before .before .before in
-    ended-lined _ _ _ (ends e) (short r) _ _ (r .refill .ensures .card) (r .refill .ensures .bytes) _ (front (e .before .end-of .result) (r .before .before .before .before .args .input .now)) (h .hold2 .ensures .card) (h .hold2 .ensures .bytes) _ _ _ _ (c .list-held .ensures)
+    ended-lined _ _ _ (ends e) (short r) _ _ (r .refill .ensures .held .card) (r .refill .ensures .held .bytes) _ (front (e .before .end-of .result) (r .before .before .before .before .args .input .now)) (h .hold2 .ensures .card) (h .hold2 .ensures .bytes) _ _ _ _ (c .list-held .ensures)
 
 list-held-requires : tie.Need-list-held-requires
 list-held-requires c κs = let h = c .before .before in (omega (arith, fill h, ends (h .before .before) .short (short (h .before .before .before .before .before .before))), goes (h .before .before .before))
@@ -119,7 +120,7 @@ returns-3 c =
     let l = c .before .before .before .before .before .before .before .before .before in
     let e = c .before .before .before .before .before .before .before .before .before .before .before .before .before .before in
     let r = c .before .before .before .before .before .before .before .before .before .before .before .before .before .before .before .before .before .before in
-    held-ends _ _ _ _ _ _ (r .refill .ensures .card) (r .refill .ensures .bytes) (short r) (goes (e .before)) _ (ends e) _ _ _ (lined l) _ (behind-all (e .before .end-of .result) (c .before .before .before .before .before .before .before .before .before .before .before .before .before .before .before .before .before .before .before .before .before .before .args .input .now)) _ (c .before .before .before .before .feed-whole .ensures) refl
+    held-ends _ _ _ _ _ _ (r .refill .ensures .held .card) (r .refill .ensures .held .bytes) (short r) (goes (e .before)) _ (ends e) _ _ _ (lined l) _ (behind-all (e .before .end-of .result) (c .before .before .before .before .before .before .before .before .before .before .before .before .before .before .before .before .before .before .before .before .before .before .args .input .now)) _ (c .before .before .before .before .feed-whole .ensures) refl
 
 pub feed-held-spec : {M : Type 1} → statement M
 feed-held-spec =

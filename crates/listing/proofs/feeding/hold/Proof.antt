@@ -3,7 +3,7 @@
 use mathlib.Core.Path.{ap, _∙_}
 use native.Mathlib.Omega.{arith}
 use Rattle.wire.proofs.digits.Laws.{below-each}
-use Rattle.card.specs.declared.block.BlockAnswer.{BlockAnswer}
+use Rattle.card.specs.declared.blocks.BlockAnswer.{BlockAnswer}
 use Rattle.laws.proofs.Blocks.{block-fed}
 use borrow.Author.Needs.{needs}
 use Rattle.listing.proofs.feeding.hold.Statement.{statement}

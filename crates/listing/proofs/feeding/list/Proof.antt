@@ -18,11 +18,11 @@ use Rattle.listing.proofs.feeding.list.Statement.{statement}
 use Rattle.listing.proofs.feeding.list.Tie as tie
 
 abbrev Inv-loop : tie.InvT-loop
-Inv-loop fresh input first number row₀ at digits₀ place₀ next₀ written₀ i₀ n₀ row digits place next written i n =
-    Turn input first number row₀ at row next written i n × Spelled next digits place
+Inv-loop fresh input front number row₀ at digits₀ first₀ next₀ written₀ i₀ n₀ row digits first next written i n =
+    Turn input front number row₀ at row next written i n × Spelled next digits first
 
 abbrev μ-loop : tie.MeasureT-loop
-μ-loop fresh input first number row₀ at digits₀ place₀ next₀ written₀ i₀ n₀ row digits place next written i n = length input - i
+μ-loop fresh input front number row₀ at digits₀ first₀ next₀ written₀ i₀ n₀ row digits first next written i n = length input - i
 
 digits-of-requires : tie.Need-digits-of-requires Inv-loop μ-loop
 digits-of-requires c κs = search needs

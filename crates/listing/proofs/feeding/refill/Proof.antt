@@ -35,8 +35,10 @@ returns c =
     let l : length (q .bytes) ≡ 64 = length-unmapped ℕ (q .bytes) 64 (d .good .0 .1 .1 .0 .1 .0 .1) in
     let f : q .fill - 0 ≡ q .fill = omega arith in
     record {
-      card = c .hold .ensures .card ∙ ap₂ (λ (k : Card) (n : ℕ). fed k (take n (q .bytes))) (c .before .before .before .fresh-card .ensures) f;
-      bytes = rw f at (c .hold .ensures .bytes);
+      held = record {
+        card = c .hold .ensures .card ∙ ap₂ (λ (k : Card) (n : ℕ). fed k (take n (q .bytes))) (c .before .before .before .fresh-card .ensures) f;
+        bytes = rw f at (c .hold .ensures .bytes);
+      };
       count = length-take-le (q .fill) (q .bytes) (omega (arith, l, d .pre));
     }
 

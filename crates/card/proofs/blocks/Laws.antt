@@ -17,7 +17,7 @@ use Rattle.parts.specs.declared.queue.Queue.{Queue}
 use Rattle.parts.specs.Queues.{queued, enqueued, queueLawful}
 use Rattle.parts.proofs.queue.Laws.{enqueued-lawful, zeros-behind-fill}
 use Rattle.card.specs.declared.card.Card.{Card}
-use Rattle.card.specs.declared.block.BlockAnswer.{BlockAnswer}
+use Rattle.card.specs.declared.blocks.BlockAnswer.{BlockAnswer}
 use Rattle.card.specs.Blocks.{blockAnswer, behind, oneByOne, writeBlock, free, finding, joined, blockLines}
 use Rattle.card.specs.Cards.{answer, withQueue}
 use Rattle.card.specs.Lawful.{lawful}

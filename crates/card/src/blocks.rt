@@ -15,7 +15,7 @@ pub struct BlockAnswer {
     pub taken: usize,
 }
 
-// The first bytes of a row, at a place of the queue.
+// Stores the first bytes of a row from a place of the queue on. Every other place stays as it was.
 fn store_row(bytes: &mut [u8; 64], at: usize, row: &[u8], n: usize)
     requires { ⌜ (length (now bytes) ≡ 64) × (at + n ≤ 64) × (n ≤ length (now row)) ⌝ }
     ensures { λ r. ⌜ now (bytes .exit) ≡ paste (now (bytes .entry)) at (now (row .entry)) n ⌝ }
@@ -27,7 +27,8 @@ fn store_row(bytes: &mut [u8; 64], at: usize, row: &[u8], n: usize)
     }
 }
 
-// Writes the bytes of a row to FIFO, as far as there are free places. Where some are left over, this is the one refusal 3 that leaves a changed card.
+// Writes the bytes of a row to FIFO, as far as there are free places, and says how many were taken. 3 if some are left over: those before them are in, and this
+// is the one refusal 3 that leaves a changed card.
 pub fn write_block(card: Card, row: &[u8]) -> BlockAnswer
     ensures { λ r. ⌜ r ≡ writeBlock card (now (row .entry)) ⌝ }
 {

@@ -1,12 +1,12 @@
--- `block::store_row` meets its contract. The invariant: the bytes before place i of the row are stored. The measure is what is left of them.
+-- `blocks::store_row` meets its contract. The invariant: the bytes before place i of the row are stored. The measure is what is left of them.
 -- Assumes nothing.
 use Prim.Native.Nat.{ℕ, _-_, _≤_}
 use mathlib.Core.Path.{_≡_, ap, _∙_}
 use native.Mathlib.Omega.{arith}
 use lib.Seq.{paste, paste-zero}
-use Rattle.card.proofs.block.Laws.{stored-more}
-use Rattle.card.proofs.block.store_row.Statement.{statement}
-use Rattle.card.proofs.block.store_row.Tie as tie
+use Rattle.card.proofs.blocks.Laws.{stored-more}
+use Rattle.card.proofs.blocks.store_row.Statement.{statement}
+use Rattle.card.proofs.blocks.store_row.Tie as tie
 
 abbrev Inv-loop : tie.InvT-loop
 Inv-loop bytes₀ at row n i₀ bytes i = (i ≤ n) × (bytes ≡ paste bytes₀ at row i)

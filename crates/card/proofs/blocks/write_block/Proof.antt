@@ -1,4 +1,4 @@
--- `block::write_block` meets its contract: refused by 18, or as many bytes stored as find a free place.
+-- `blocks::write_block` meets its contract: refused by 18, or as many bytes stored as find a free place.
 -- Assumes nothing.
 use Prim.Native.Nat.{ℕ, _≤_}
 use mathlib.Core.Path.{_≡_, sym, _∙_}
@@ -7,10 +7,10 @@ use native.Mathlib.Omega.{arith}
 use lib.ListN.{length}
 use Rattle.wire.proofs.digits.Laws.{below-each}
 use Rattle.card.proofs.registers.Laws.{queue-within}
-use Rattle.card.proofs.block.Laws.{block-18, block-3, block-0}
+use Rattle.card.proofs.blocks.Laws.{block-18, block-3, block-0}
 use borrow.Author.Needs.{needs, length-unmapped}
-use Rattle.card.proofs.block.write_block.Statement.{statement}
-use Rattle.card.proofs.block.write_block.Tie as tie
+use Rattle.card.proofs.blocks.write_block.Statement.{statement}
+use Rattle.card.proofs.blocks.write_block.Tie as tie
 
 is-lawful-requires : tie.Need-is-lawful-requires
 is-lawful-requires c κs = search needs
