@@ -1,5 +1,4 @@
-// 18: whether a card is lawful: each part answers for its own ranges. The clock is asked first, then the queue, then the small parts: of the orders that were
-// measured, the fastest.
+// 18: whether a card is lawful: each part answers for its own ranges. The clock is asked first, and the queue, whose test takes longest, last.
 use crate::card::Card;
 use clock::lawful::clock_fits;
 use parts::event::latches_fit;
@@ -13,10 +12,6 @@ ghost use Rattle.card.specs.Lawful.{restLawful, lawful};
 pub(crate) fn rest_fits(card: Card) -> bool
     ensures { λ r. ⌜ r ≡ restLawful card ⌝ }
 {
-    let queue = card.queue;
-    if !queue_fits(queue) {
-        return false;
-    }
     let interrupts = card.interrupts;
     if !interrupts_fit(interrupts) {
         return false;
@@ -30,7 +25,11 @@ pub(crate) fn rest_fits(card: Card) -> bool
     }
     let time_latch = card.time_latch;
     let event_latch = card.event.latch;
-    latches_fit(time_latch, event_latch)
+    if !latches_fit(time_latch, event_latch) {
+        return false;
+    }
+    let queue = card.queue;
+    queue_fits(queue)
 }
 
 // Whether any call takes this card. Asked first in each of them.

@@ -1,8 +1,9 @@
 -- The parts of a card in the order in which the code asks them, and what a lawful card tells of each. Assumes nothing.
-use mathlib.Core.Path.{_≡_, refl, sym, ap, _∙_}
+use mathlib.Core.Path.{_≡_, refl, ap, _∙_}
 use mathlib.Core.Bool.{Bool, true, false, _&&_}
 use lib.Dec.{ltb}
 use Rattle.wire.proofs.digits.Laws.{and-both}
+use Rattle.wire.proofs.packets.Laws.{and-false}
 use Rattle.clock.specs.Clocks.{clockLawful}
 use Rattle.parts.specs.Events.{latchLawful, eventLawful}
 use Rattle.parts.specs.Interrupts.{interruptsLawful}
@@ -12,36 +13,36 @@ use Rattle.parts.proofs.event.Laws.{event-is}
 use Rattle.card.specs.declared.card.Card.{Card}
 use Rattle.card.specs.Lawful.{restLawful, lawful}
 
-none : (q : Bool) → false ≡ (q && false)
-none true = refl
-none false = refl
-
-last : (l t q : Bool) → (l && (t && q)) ≡ (q && (t && l))
-last true true true = refl
-last true true false = refl
-last true false q = none q
-last false true q = none q
-last false false q = none q
-
--- tests in the page's order, and in the order in which the code asks them
-reordered : (i k l t s q : Bool) → (i && ((k && l) && (t && (s && q)))) ≡ (q && (i && (k && (s && (t && l)))))
-reordered false k l t s q = none q
-reordered true false l t s q = none q
-reordered true true l t true q = last l t q
-reordered true true l t false q = last l t false ∙ none q
+-- five tests in the page's order, and in the order in which the code asks them
+reordered : (i k l t s q : Bool) → (i && ((k && l) && (t && (s && q)))) ≡ (i && (k && (s && ((t && l) && q))))
+reordered false k l t s q = refl
+reordered true false l t s q = refl
+reordered true true l t true q = order l t q
+  where
+    order : (l t q : Bool) → (l && (t && q)) ≡ ((t && l) && q)
+    order true true q = refl
+    order true false q = refl
+    order false true q = refl
+    order false false q = refl
+reordered true true l t false q = none l t
+  where
+    none : (l t : Bool) → (l && (t && false)) ≡ false
+    none true true = refl
+    none true false = refl
+    none false t = refl
 
 pub rest-parts : (c : Card) →
     restLawful c
-    ≡ (queueLawful (c .queue)
-    && (interruptsLawful (c .interrupts)
+    ≡ (interruptsLawful (c .interrupts)
     && (ltb (c .event .control) 4
     && (settingsLawful (c .settings)
-    && (latchLawful (c .«time_latch») && latchLawful (c .event .latch))))))
+    && ((latchLawful (c .«time_latch») && latchLawful (c .event .latch))
+    && queueLawful (c .queue)))))
 unfolding restLawful
 rest-parts c =
     rw (event-is (c .event)) (reordered (interruptsLawful (c .interrupts)) (ltb (c .event .control) 4) (latchLawful (c .event .latch)) (latchLawful (c .«time_latch»)) (settingsLawful (c .settings)) (queueLawful (c .queue)))
 
--- of a card whose clock is lawful, the others decide
+-- of a card whose clock is lawful, the other parts decide
 pub clock-lawful : (c : Card) → clockLawful (c .clock) ≡ true → lawful c ≡ restLawful c
 unfolding lawful
 clock-lawful c e = ap (λ (t : Bool). restLawful c && t) e ∙ all (restLawful c)
@@ -52,7 +53,7 @@ clock-lawful c e = ap (λ (t : Bool). restLawful c && t) e ∙ all (restLawful c
 
 pub clock-unlawful : (c : Card) → clockLawful (c .clock) ≡ false → lawful c ≡ false
 unfolding lawful
-clock-unlawful c e = ap (λ (t : Bool). restLawful c && t) e ∙ sym (none (restLawful c))
+clock-unlawful c e = ap (λ (t : Bool). restLawful c && t) e ∙ and-false (restLawful c)
 
 -- of a card whose other parts are lawful, the clock decides
 pub rest-lawful : (c : Card) → restLawful c ≡ true → lawful c ≡ clockLawful (c .clock)
