@@ -50,16 +50,16 @@ def ends(s):
 
 
 def in_turn(s):
-    rest = random.Random(4)
+    draw = random.Random(4)
     everything(s)
     for _ in range(80):
-        kind = rest.randrange(12)
+        kind = draw.randrange(12)
         if kind < 7:
-            block(s, rest.choice((0, 1, 2, 5, 11, 30, 64, 80)), rest.randrange(256), rest.randrange(256))
+            block(s, draw.choice((0, 1, 2, 5, 11, 30, 64, 80)), draw.randrange(256), draw.randrange(256))
         elif kind < 10:
-            s.do("w", 13, rest.randrange(65_536))
+            s.do("w", 13, draw.randrange(65_536))
         elif kind == 10:
-            s.do("w", 12, rest.choice((0x80, 0x81, 1)))
+            s.do("w", 12, draw.choice((0x80, 0x81, 1)))
         else:
             s.do("x")
 

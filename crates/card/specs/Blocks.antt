@@ -47,7 +47,7 @@ joined q bs = record { bytes = queued q ++ (bs ++ replicate (64 - (q .fill + len
 
 -- REFUSALS
 
--- 18, 3 more bytes than free places
+-- 18; 3 if there are more bytes than free places
 abbrev pub blockLines : Bool → Queue → List ℕ → List Line
 blockLines known q row =
     18 if not known

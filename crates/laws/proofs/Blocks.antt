@@ -9,7 +9,7 @@ use native.Mathlib.Nat.{min-le-right, min-eq-left, min-eq-right, le-of-lt}
 use native.Mathlib.Omega.{arith}
 use lib.Dec.{eqb}
 use lib.ListN.{length, take, drop, set, length-drop}
-use borrow.Author.Tests.{lt-ltb, le-ltb}
+use borrow.Author.Tests.{lt-ltb}
 use Rattle.wire.proofs.digits.Laws.{lt-or-le}
 use Rattle.card.specs.declared.card.Card.{Card}
 use Rattle.card.specs.declared.card.Answer.{Answer}
@@ -19,7 +19,7 @@ use Rattle.card.specs.Cards.{withQueue}
 use Rattle.card.specs.Lawful.{lawful}
 use Rattle.card.specs.Registers.{writeRegister}
 use Rattle.parts.specs.Queues.{enqueued}
-use Rattle.card.proofs.blocks.Laws.{filled, joins-lawful, free-places, block-18, block-is, block-number}
+use Rattle.card.proofs.blocks.Laws.{filled, joins-lawful, free-places, block-18, block-is, block-number, block-accepts}
 use Rattle.card.proofs.registers.Laws.{queue-within, fifo-18, fifo-3, fifo-joins}
 use Rattle.laws.specs.Calls.{Call, after, fed}
 use Rattle.laws.proofs.Keeps.{keeps}
@@ -76,13 +76,10 @@ three-exactly-if c row l =
       λ e. block-number c row ∙ simp (l, lt-ltb (free (c .queue)) (length row) h),
     ))
     (λ (h : length row ≤ free (c .queue)). (
-      λ e. absurd (omega (arith, e, none h)),
+      λ e. absurd (omega (arith, e, block-accepts c row l h)),
       λ e. absurd (omega (arith, e, taken-finding c row l ∙ min-eq-right h)),
     ))
     (lt-or-le (free (c .queue)) (length row))
-  where
-    none : length row ≤ free (c .queue) → writeBlock c row .number ≡ 0
-    none h = block-number c row ∙ simp (l, le-ltb (free (c .queue)) (length row) h)
 
 -- ---- a row cut into two calls
 

@@ -9,7 +9,7 @@ use native.Mathlib.Nat.{min-eq-left, le-of-lt}
 use native.Mathlib.Omega.{arith}
 use lib.Dec.{eqb}
 use lib.ListN.{length}
-use borrow.Author.Tests.{eqb-false, eqb-true, le-ltb}
+use borrow.Author.Tests.{eqb-false, eqb-true}
 use Rattle.wire.specs.Digits.{pick}
 use Rattle.wire.proofs.digits.Laws.{clash, lt-or-le}
 use Rattle.wire.proofs.packets.Read.{packet-number}
@@ -24,7 +24,7 @@ use Rattle.card.specs.Registers.{readRefusal, readRegister}
 use Rattle.card.specs.Waiting
 use Rattle.card.specs.Waiting.{waitRefusal, rowWaited}
 use Rattle.card.specs.Saved.{saveRefusal, rowSaved}
-use Rattle.card.proofs.blocks.Laws.{block-18, block-is, block-number}
+use Rattle.card.proofs.blocks.Laws.{block-18, block-is, block-accepts}
 use Rattle.card.proofs.registers.Laws.{ack-packet}
 use Rattle.laws.specs.Calls.{Call, after, number, values, lent, left}
 use Rattle.laws.specs.Refusals.{Excepted, beside}
@@ -98,7 +98,7 @@ wait-beside n row c false e h = (simp e, simp e)
 
 block-beside : (row : List ℕ) (c : Card) (t : Bool) → lawful c ≡ t → (writeBlock c row .number ≡ 0 → ⊥) → writeBlock c row .taken ≡ pick (lawful c) (free (c .queue)) 0
 block-beside row c true l h =
-    let s : free (c .queue) < length row = ⊎-elim (λ w. w) (λ w. absurd (h (block-number c row ∙ simp (l, le-ltb (free (c .queue)) (length row) w)))) (lt-or-le (free (c .queue)) (length row)) in
+    let s : free (c .queue) < length row = ⊎-elim (λ w. w) (λ w. absurd (h (block-accepts c row l w))) (lt-or-le (free (c .queue)) (length row)) in
     ap (λ (r : BlockAnswer). r .taken) (block-is c row l) ∙ min-eq-left (le-of-lt s) ∙ simp l
 block-beside row c false l h = ap (λ (r : BlockAnswer). r .taken) (sym (block-18 c row (lawful c) refl l)) ∙ simp l
 

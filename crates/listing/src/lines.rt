@@ -1,5 +1,5 @@
 // Lines of the listing, written at a place of a lent row. Every other place stays as it was.
-// Lines are numbered one after the other, so a number is kept as its decimal digits and counted up: no line's number costs a division.
+// Lines are numbered one after the other, so a number is kept as its decimal digits and counted up: it is divided where a run of lines begins, not for each line.
 ghost use mathlib.Core.Path.{_≡_};
 ghost use mathlib.Core.List.{[], _∷_};
 ghost use Prim.Native.Nat.{suc, _+_, _≤_, _<_};
@@ -37,7 +37,7 @@ pub(crate) fn first_of(digits: &[u8; 20]) -> usize
     i
 }
 
-// The next number: the nines at the end become zeros, and the digit before them gets one more. Answers its first place.
+// The next number: the nines at the end become zeros, and the digit before them gets one more. Answers the place of its first written digit.
 pub(crate) fn count_up(digits: &mut [u8; 20], first: usize) -> usize
     requires { ⌜ Spelled (num 10 (now digits)) (now digits) first × (num 10 (now digits) < allNines) ⌝ }
     ensures { λ r. ⌜ Spelled (suc (num 10 (now (digits .entry)))) (now (digits .exit)) r ⌝ }

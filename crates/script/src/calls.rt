@@ -88,7 +88,7 @@ fn rising(row: &mut [u8], first: u8, step: u8) {
     }
 }
 
-// So many of them as a block.
+// So many rising bytes, 80 at most, as one block.
 fn told_block(card: Card, text: &[u8]) -> Card {
     let mut row = [0u8; 80];
     rising(&mut row, byte_at(text, 2), byte_at(text, 3));

@@ -9,10 +9,10 @@ use native.Mathlib.Omega.{arith}
 use lib.Dec.{ltb, leb·suc-suc, leb·suc-zero, leb·zero}
 use lib.ListN.{length, take, drop, set, getD, replicate, length-set, length-take, length-drop}
 use lib.Seq.{paste, paste-suc, paste-zero, take-suc-set, length-take-le, drop-drop}
-use borrow.Author.Tests.{ltb-true, lt-ltb, le-ltb}
+use borrow.Author.Tests.{lt-ltb, le-ltb}
 use Rattle.wire.specs.Digits.{pick, below}
 use Rattle.wire.specs.Numbers.{given}
-use Rattle.wire.proofs.digits.Laws.{and-left, and-right, below-take, below-drop, zeros}
+use Rattle.wire.proofs.digits.Laws.{below-at, below-take, below-drop, zeros}
 use Rattle.parts.specs.declared.queue.Queue.{Queue}
 use Rattle.parts.specs.Queues.{queued, enqueued, queueLawful}
 use Rattle.parts.proofs.queue.Laws.{enqueued-lawful, zeros-behind-fill}
@@ -87,6 +87,10 @@ block-number c row = go (lawful c) refl
     go true l = ap (λ (r : BlockAnswer). r .number) (block-is c row l)
     go false l = ap (λ (r : BlockAnswer). r .number) (sym (block-18 c row (lawful c) refl l)) ∙ simp l
 
+-- 0 if every byte finds a place
+pub block-accepts : (c : Card) (row : List ℕ) → lawful c ≡ true → length row ≤ free (c .queue) → writeBlock c row .number ≡ 0
+block-accepts c row l h = block-number c row ∙ simp (l, le-ltb (free (c .queue)) (length row) h)
+
 -- and the queue that bytes joined is lawful
 pub filled-lawful : (bs : List ℕ) (q : Queue) → queueLawful q ≡ true → length bs ≤ free q → queueLawful (filled q bs) ≡ true
 filled-lawful [] q h e = h
@@ -118,15 +122,14 @@ module _ (q : Queue) (l : length (q .bytes) ≡ 64) (h : queueLawful q ≡ true)
 
 -- bytes that join one after another stand behind the ones held, and zeros behind
 pub filled-joined : (bs : List ℕ) (q : Queue) → length (q .bytes) ≡ 64 → queueLawful q ≡ true → q .fill + length bs ≤ 64 → below 256 bs ≡ true → filled q bs ≡ joined q bs
-unfolding below
 filled-joined [] q l h f s = paste-zero-is
   where
     paste-zero-is : q ≡ joined q []
     paste-zero-is = ap₂ (λ (bytes : List ℕ) (n : ℕ). record { bytes = bytes; fill = n }) (paste-zero (q .bytes) (q .fill) []) (let e : q .fill ≡ q .fill + 0 = omega arith in e) ∙ stored-joined q l h [] 0 (omega arith)
 filled-joined (b ∷ bs) q l h f s =
-    let m : b % 256 ≡ b = mod-eq-of-lt (ltb-true b 256 (and-left (ltb b 256) (below 256 bs) s)) in
+    let m : b % 256 ≡ b = mod-eq-of-lt (below-at 256 (b ∷ bs) s 0 (omega arith)) in
     ap (λ (x : ℕ). filled (enqueued q x) bs) m
-    ∙ filled-joined bs (enqueued q b) (length-set (q .bytes) (q .fill) b ∙ l) (enqueued-lawful q b (omega arith) h) (omega arith) (and-right (ltb b 256) (below 256 bs) s)
+    ∙ filled-joined bs (enqueued q b) (length-set (q .bytes) (q .fill) b ∙ l) (enqueued-lawful q b (omega arith) h) (omega arith) (below-drop 256 1 (b ∷ bs) s)
     ∙ one-behind q b bs (omega arith)
 
 -- ---- what is stored and counted

@@ -2,7 +2,7 @@
 use mathlib.Core.Path.{_≡_, refl, ap, _∙_}
 use mathlib.Core.Bool.{Bool, true, false, _&&_}
 use lib.Dec.{ltb}
-use Rattle.wire.proofs.digits.Laws.{and-both}
+use Rattle.wire.proofs.digits.Laws.{and-both, and-true}
 use Rattle.wire.proofs.packets.Laws.{and-false}
 use Rattle.clock.specs.Clocks.{clockLawful}
 use Rattle.parts.specs.Events.{latchLawful, eventLawful}
@@ -45,11 +45,7 @@ rest-parts c =
 -- of a card whose clock is lawful, the other parts decide
 pub clock-lawful : (c : Card) → clockLawful (c .clock) ≡ true → lawful c ≡ restLawful c
 unfolding lawful
-clock-lawful c e = ap (λ (t : Bool). restLawful c && t) e ∙ all (restLawful c)
-  where
-    all : (t : Bool) → (t && true) ≡ t
-    all true = refl
-    all false = refl
+clock-lawful c e = ap (λ (t : Bool). restLawful c && t) e ∙ and-true (restLawful c)
 
 pub clock-unlawful : (c : Card) → clockLawful (c .clock) ≡ false → lawful c ≡ false
 unfolding lawful

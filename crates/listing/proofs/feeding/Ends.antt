@@ -1,7 +1,7 @@
 -- Where a piece ends: the bytes before that are held, and up to there they are one piece. By induction on the input. Assumes nothing.
 use Prim.Native.Nat.{ℕ, zero, suc, _+_, _-_, _≤_, _<_}
 use mathlib.Core.Path.{_≡_, refl, sym, ap, ap₂, _∙_}
-use mathlib.Core.Bool.{Bool, true, false, _||_}
+use mathlib.Core.Bool.{Bool, true, false}
 use mathlib.Core.List.{List, [], _∷_, _++_, append-assoc, append-nil}
 use native.Mathlib.Numerals.{add-one}
 use native.Mathlib.Omega.{arith}
@@ -12,7 +12,7 @@ use lib.Seq.{drop-cons}
 use borrow.Author.Tests.{eqb-false}
 use Rattle.wire.specs.Digits.{pick}
 use Rattle.wire.proofs.digits.Laws.{or-right}
-use Rattle.listing.specs.Listing.{ends, pieces, rest, answerOf, line, goesOn, takes, onward, endOf}
+use Rattle.listing.specs.Listing.{endsAt, ends, pieces, rest, answerOf, line, goesOn, takes, onward, endOf}
 use Rattle.listing.proofs.feeding.Laws.{not-full}
 
 -- by the first byte
@@ -115,7 +115,7 @@ pub ended-at : (held xs : List ℕ) (n : ℕ) → n ≡ endOf (length held) xs �
 ended-at held xs zero e h = absurd (h refl)
 ended-at held xs (suc n) e h = ended held xs n (sym e)
 
--- ---- looking for the end, byte by byte
+-- LOOKING FOR THE END, BYTE BY BYTE
 
 -- none, or so many bytes further on
 abbrev pub shifted : ℕ → ℕ → ℕ
@@ -144,7 +144,7 @@ looked-none held input h =
       ends = shifted-none (endOf held input) ∙ ap (λ (k : ℕ). shifted 0 (endOf k input)) (let e : held ≡ held + 0 = omega arith in e);
     }
 
-module _ (held : ℕ) (input : List ℕ) (i : ℕ) (l : Looked held input i) (h : i < length input) (last : Bool) (e : last ≡ (eqb (getD input i 0) 0x17 || eqb (held + i) 40)) where
+module _ (held : ℕ) (input : List ℕ) (i : ℕ) (l : Looked held input i) (h : i < length input) (last : Bool) (e : last ≡ endsAt (held + i) (getD input i 0)) where
   next : endOf held input ≡ shifted i (pick last 1 (onward (endOf (suc (held + i)) (drop (suc i) input))))
   unfolding endOf
   next = l .ends ∙ ap (λ (bs : List ℕ). shifted i (endOf (held + i) bs)) (drop-cons input i 0 h) ∙ ap (λ (t : Bool). shifted i (pick t 1 (onward (endOf (suc (held + i)) (drop (suc i) input))))) (sym e)

@@ -78,22 +78,19 @@ going-none qs n input before at now m w l =
 
 -- one piece more
 module _ (qs : List (List ℕ)) (n : ℕ) (input before : List ℕ) (at : ℕ) (now : List ℕ) (m w i : ℕ) (g : Going qs n input before at now m w i) (k : ℕ) (u : Ended [] (drop i input) k) where
-  more : take (i + k) input ≡ take i input ++ take k (drop i input)
-  more = take-add i k input
-
   pub going-more : (a : ℕ) → a ≡ answerOf (take k (drop i input)) → goesOn m (length before - w) ≡ true → (row : List ℕ) (v : ℕ) → PutLine now w m a row v
       → Going qs n input before at row (m + 1) v (i + k)
   unfolding pieces rest
   going-more a ea go row v put =
       let p = take k (drop i input) in
       let c : pieces [] (take (i + k) input) ≡ pieces [] (take i input) ++ (p ∷ []) =
-      ap (pieces []) more ∙ pieces-append [] (take i input) p ∙ ap (λ (held : List ℕ). pieces [] (take i input) ++ pieces held p) (g .none) ∙ ap (λ (ps : List (List ℕ)). pieces [] (take i input) ++ ps) (u .pieces) in
+      ap (pieces []) (take-add i k input) ∙ pieces-append [] (take i input) p ∙ ap (λ (held : List ℕ). pieces [] (take i input) ++ pieces held p) (g .none) ∙ ap (λ (ps : List (List ℕ)). pieces [] (take i input) ++ ps) (u .pieces) in
       let l : Lined n before at row (m + 1) v (qs ++ pieces [] (take (i + k) input)) =
       rw (c, ← append-assoc qs (pieces [] (take i input)) (p ∷ [])) (lined-more n before at now m w (qs ++ pieces [] (take i input)) (g .lined) p a ea go row v put) in
       let behind : v ≡ w + length (line m (answerOf p)) = put .put .behind ∙ ap (λ (x : ℕ). w + length (line m x)) ea in
       record {
         within = omega (arith, g .within, u .within, length-drop i input);
-        none = ap (rest []) more ∙ rest-append [] (take i input) p ∙ ap (λ (held : List ℕ). rest held p) (g .none) ∙ u .rest;
+        none = ap (rest []) (take-add i k input) ∙ rest-append [] (take i input) p ∙ ap (λ (held : List ℕ). rest held p) (g .none) ∙ u .rest;
         lined = l;
         left =
             g .left

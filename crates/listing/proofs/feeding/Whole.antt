@@ -4,6 +4,7 @@ use mathlib.Core.Path.{_≡_, refl, sym, ap, ap₂, _∙_}
 use mathlib.Core.Bool.{Bool, true, false, _&&_}
 use mathlib.Core.List.{List, [], _∷_, _++_, append-nil}
 use mathlib.Core.Logic.{⊎-elim}
+use native.Mathlib.Nat.{zero-add}
 use native.Mathlib.Omega.{arith}
 use lib.Dec.{leb}
 use lib.ListN.{length, take, drop, length-append, length-drop, length-take, take-append-drop, drop-of-length-le, replicate}
@@ -51,21 +52,18 @@ module _ (input : List ℕ) (k n : ℕ) (before : List ℕ) (at : ℕ) (after : 
     abbrev l : ListsOn input k n before at after r
     l = s .some z
 
-    joined : take (k + l .behind) input ≡ take k input ++ take (l .behind) (drop k input)
-    joined = take-add k (l .behind) input
-
     some-listed : Stopped n input before at after (r .number) (r .written) (k + l .behind)
     unfolding lines
     some-listed =
         let p = take k input in
         let c : pieces [] (take (k + l .behind) input) ≡ p ∷ pieces [] (take (l .behind) (drop k input)) =
-        ap (pieces []) joined ∙ pieces-append [] p (take (l .behind) (drop k input)) ∙ ap₂ (λ (ps : List (List ℕ)) (held : List ℕ). ps ++ pieces held (take (l .behind) (drop k input))) (u .pieces) (u .rest) in
+        ap (pieces []) (take-add k (l .behind) input) ∙ pieces-append [] p (take (l .behind) (drop k input)) ∙ ap₂ (λ (ps : List (List ℕ)) (held : List ℕ). ps ++ pieces held (take (l .behind) (drop k input))) (u .pieces) (u .rest) in
         let g : goesOn n (length before - at) ≡ true = next-goes n (length before - at) input (omega (arith, e)) in
         let t = takes [] (r .number) (length before - r .written) (drop (k + l .behind) input) in
         record {
           going = record {
             within = omega (arith, l .going .within, length-drop k input, u .within);
-            none = ap (rest []) joined ∙ rest-append [] p (take (l .behind) (drop k input)) ∙ ap (λ (held : List ℕ). rest held (take (l .behind) (drop k input))) (u .rest) ∙ l .going .none;
+            none = ap (rest []) (take-add k (l .behind) input) ∙ rest-append [] p (take (l .behind) (drop k input)) ∙ ap (λ (held : List ℕ). rest held (take (l .behind) (drop k input))) (u .rest) ∙ l .going .none;
             lined = rw c (l .going .lined);
             left =
                 ap₂ (λ (x y : ℕ). takes [] x (length before - y) input) (let q : n + 0 ≡ n = omega arith in q) (let q : at + 0 ≡ at = omega arith in q)
@@ -285,9 +283,6 @@ last-held b before after r h g s = ⊎-elim some none (lt-or-le 0 (b .queue .fil
   where
     none : b .queue .fill ≤ 0 → Finishing b before after (r .written)
     none z = let a = s .none (omega arith) in rw (a .0, a .1) (last-none b before (last-empty b (length before) (omega arith)))
-
-    zero-add : (k : ℕ) → 0 + k ≡ k
-    zero-add k = omega arith
 
     some : 0 < b .queue .fill → Finishing b before after (r .written)
     some z =

@@ -7,8 +7,8 @@ use mathlib.Core.Bool.{true}
 use mathlib.Core.List.{List, [], _∷_, _++_, append-assoc}
 use native.Mathlib.Nat.{pow-suc, div-div-eq-div-mul, div-one, suc-mul}
 use native.Mathlib.Omega.{arith}
-use lib.ListN.{length, take, drop, getD, set, replicate, length-append, length-set, length-replicate, take-append-drop, drop-of-length-le, replicate-append-replicate, List·getD-append}
-use lib.Seq.{take-suc, set-at, take-at, take-take, take-append-le, getD-at, length-take-le}
+use lib.ListN.{length, take, drop, getD, set, replicate, length-append, length-set, length-replicate, drop-of-length-le, replicate-append-replicate, List·getD-append}
+use lib.Seq.{take-suc, set-at, take-at, take-take, take-append-le, getD-at, length-take-le, split-at}
 use borrow.Author.Tests.{ne-eqb, lt-ltb}
 use Rattle.wire.specs.Digits.{digits, num, below}
 use Rattle.wire.specs.Packets.{ascii}
@@ -105,12 +105,12 @@ pub record Carried (before now : List ℕ) (i : ℕ) : Type 0 where
   pub was : before ≡ front ++ (digit ∷ replicate nines 9)
   pub row : now ≡ front ++ (digit ∷ replicate nines 0)
 
+last-split : (l : List ℕ) (m : ℕ) → length l ≡ suc m → l ≡ take m l ++ (getD l m 0 ∷ [])
+last-split l m e = split-at l m 0 (omega arith) ∙ ap (λ (r : List ℕ). take m l ++ (getD l m 0 ∷ r)) (drop-of-length-le l {i = suc m} (omega arith))
+
 pub carried-none : (ds : List ℕ) → length ds ≡ 20 → Carried ds ds 19
 carried-none ds l =
-    let whole : ds ≡ take 19 ds ++ (getD ds 19 0 ∷ []) =
-    sym (take-append-drop 20 ds)
-    ∙ ap₂ (λ (x y : List ℕ). x ++ y) (take-suc ds 19 0 (omega arith)) (drop-of-length-le ds {i = 20} (omega arith))
-    ∙ append-assoc (take 19 ds) (getD ds 19 0 ∷ []) [] in
+    let whole : ds ≡ take 19 ds ++ (getD ds 19 0 ∷ []) = last-split ds 19 l in
     record {
       front = take 19 ds;
       digit = getD ds 19 0;
@@ -161,10 +161,7 @@ carried-more before now i c h e =
     let f = c .front in
     let d : c .digit ≡ 9 = sym (carried-digit before now i c) ∙ e in
     let l : m < length f = omega (arith, c .place) in
-    let split : f ≡ take m f ++ (getD f m 0 ∷ []) =
-    sym (take-append-drop (suc m) f)
-    ∙ ap₂ (λ (x y : List ℕ). x ++ y) (take-suc f m 0 l) (drop-of-length-le f {i = suc m} (omega (arith, c .place)))
-    ∙ append-assoc (take m f) (getD f m 0 ∷ []) [] in
+    let split : f ≡ take m f ++ (getD f m 0 ∷ []) = last-split f m (omega (arith, c .place)) in
     record {
       front = take m f;
       digit = getD f m 0;
