@@ -1,4 +1,4 @@
-"""How a script is written, and what the page says of each of its lines: used by refusals.py, registers.py, blocks.py, waits.py and times.py.
+"""How a script is written, and what the page says of each of its lines: used by refusals.py, registers.py, blocks.py, waits.py, times.py and periods.py.
 
 A line is what is to be said, a bar, and a call: a letter and decimal numbers. A line with no call is only said. Some calls only change the card, and say nothing:
 
@@ -11,7 +11,7 @@ Behind the others stand their number and what else they give back:
     r REGISTER   w REGISTER VALUE   b COUNT FIRST STEP (a block)   e FALLING   l the line   x reset   p PLACES (save)   o COUNT and bytes (load)
     t YEAR DAY HOUR MINUTE SECOND   d N1 N2   q periodic off   s MS   a HOUR MINUTE SECOND MS   z strobe off   n PLACES TICKS (wait)
     i PLACES TICKS (wait in place)   f DAY TICK   g 0 and five words   A PLACES MODE   G PLACES OFFSET   H PLACES FORMAT MODULATION
-    J PLACES (I with E)   K PLACES (K with H)   v what stands in the card
+    J PLACES (I with E)   K PLACES (K with H)   c WANTED (the nearest pair)   u HIGH LOW (the same, to HIGH x 4294967296 + LOW)   v what stands in the card
 
 Formats are A, B, C, N, X as 0 to 4; modulation D, clock external and generator H are 1; an offset is its place in OFFSETS. The bytes of a block are FIRST and
 each one STEP more than the one before, from 0 on again behind 255; there are at most 80. Lent places, ten for a wait and twelve for

@@ -5,7 +5,7 @@ pub mod writing;
 
 use wire::time::Ticks;
 ghost use mathlib.Core.Path.{_≡_};
-ghost use Prim.Native.Nat.{_-_, _%_};
+ghost use Prim.Native.Nat.{_+_, _-_, _*_, _%_};
 ghost use mathlib.Core.Bool.{_&&_};
 ghost use lib.Dec.{eqb};
 ghost use Rattle.wire.specs.Digits.{pick};
@@ -85,6 +85,13 @@ pub fn long_at(text: &[u8], place: usize) -> u32
     ensures { λ r. ⌜ r ≡ numberAt place (now (text .entry)) % 4294967296 ⌝ }
 {
     (number_at(text, place) % 4_294_967_296) as u32
+}
+
+// A 64-bit number from its halves, each at a place of its own: a script's numbers are shorter.
+pub fn wide_at(text: &[u8], high: usize, low: usize) -> u64
+    ensures { λ r. ⌜ r ≡ numberAt high (now (text .entry)) % 4294967296 * 4294967296 + numberAt low (now (text .entry)) % 4294967296 ⌝ }
+{
+    (long_at(text, high) as u64) * 4_294_967_296 + (long_at(text, low) as u64)
 }
 
 pub fn ticks_at(text: &[u8], place: usize) -> Ticks

@@ -2,6 +2,7 @@
 use crate::boards::board_at;
 use crate::boards::shown;
 use cases::long_at;
+use cases::wide_at;
 use cases::writing::put_bool;
 use cases::writing::put_byte;
 use cases::writing::put_short;
@@ -18,15 +19,6 @@ use sync::register::read_register;
 use sync::stepping::run;
 use sync::stepping::step;
 use sync::switches::set_switches;
-ghost use mathlib.Core.Path.{_≡_};
-ghost use Prim.Native.Nat.{_+_, _*_};
-
-// A 64-bit number from its halves: a script's numbers are shorter.
-fn joined(high: u32, low: u32) -> u64
-    ensures { λ r. ⌜ r ≡ high * 4294967296 + low ⌝ }
-{
-    (high as u64) * 4_294_967_296 + (low as u64)
-}
 
 fn put_number(number: u8) {
     io::write_all(STDOUT_FILENO, b" =");
@@ -87,7 +79,7 @@ pub(crate) fn called(call: u8, board: Board, text: &[u8]) -> Board {
     match call {
         b'p' => told(step(board, true)),
         b'q' => told(step(board, false)),
-        b'r' => told(run(board, joined(long_at(text, 1), long_at(text, 2)))),
+        b'r' => told(run(board, wide_at(text, 1, 2))),
         b'v' => told_reading(board, read_register(board)),
         b'i' => told_taken(take_interrupt(board)),
         b'l' => told_lawful(board, is_lawful(board)),

@@ -22,14 +22,18 @@ use card::waiting::WaitedCard;
 use card::waiting::wait;
 use cases::byte_at;
 use cases::long_at;
+use cases::number_at;
 use cases::short_at;
 use cases::ticks_at;
+use cases::wide_at;
 use cases::writing::put;
 use cases::writing::put_bool;
 use cases::writing::put_byte;
 use cases::writing::put_short;
 use clock::setting::Dividers;
 use clock::setting::StrobeAt;
+use dividers::nearest::Found;
+use dividers::nearest::nearest_pair;
 use lent::in_place;
 use telling::put_bytes;
 use telling::put_card;
@@ -184,6 +188,15 @@ fn told_reading_of(words: [u16; 5]) {
     put(t.tick.ticks);
 }
 
+fn told_nearest(found: Found) {
+    put_byte(found.number);
+    let pair = found.pair;
+    put(pair.n1 as u64);
+    put(pair.n2 as u64);
+    put(found.period);
+    put(found.distance);
+}
+
 fn packet_of(call: u8, text: &[u8]) -> Packet {
     match call {
         b'A' => Packet::A(byte_at(text, 2)),
@@ -194,11 +207,13 @@ fn packet_of(call: u8, text: &[u8]) -> Packet {
     }
 }
 
-// Words and packets alone.
+// Words, packets and wanted periods alone.
 fn called_alone(call: u8, text: &[u8]) {
     match call {
         b'f' => told_words(short_at(text, 1), ticks_at(text, 2)),
         b'g' => told_reading_of(five_at(text)),
+        b'c' => told_nearest(nearest_pair(number_at(text, 1))),
+        b'u' => told_nearest(nearest_pair(wide_at(text, 1, 2))),
         _ => told_packet(packet_of(call, text), count_at(text, 12)),
     }
 }
@@ -233,7 +248,7 @@ fn called_card(call: u8, card: Card, text: &[u8]) -> Card {
 
 pub(crate) fn called(call: u8, card: Card, text: &[u8]) -> Card {
     match call {
-        b'A' | b'G' | b'H' | b'J' | b'K' | b'f' | b'g' => {
+        b'A' | b'G' | b'H' | b'J' | b'K' | b'f' | b'g' | b'c' | b'u' => {
             called_alone(call, text);
             card
         }

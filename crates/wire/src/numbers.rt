@@ -40,3 +40,5 @@ pub const UNLAWFUL: u8 = 18;
 pub const NOT_SAVED: u8 = 19;
 
 pub const OUTSIDE_SWITCH: u8 = 20;
+
+pub const OUTSIDE_PERIOD: u8 = 21;

@@ -1,0 +1,4 @@
+// The script beside it: wanted periods, and the nearest pair of dividers to each.
+fn main() {
+    script::run();
+}
