@@ -17,11 +17,12 @@ SHORTEST, LONGEST = 400, 429_483_622_500        # in nanoseconds, as all periods
 TICK = 100
 HALF = 1 << 32
 
-# where the windows are: what n1 = 2 and 3 reach with the largest n2, numbers that are no product since they are prime, products in the middle and near the top
-PLACES = (5_000, 10_000, 65_537, 131_071, 196_605, 1_000_003, 10_000_019, 100_000_007, 1_000_000_007, 1_073_676_289, 2_147_483_647, 3_221_127_169)
+# the middle of each window: the page's example and half of it; the longest periods of n1 = 2 and 3, or next to them; primes, which are no products; a quarter of the way to
+# the top, where a search over n1 has the most to do, and three quarters
+PLACES = (5_000, 10_000, 65_537, 131_071, 196_605, 1_000_003, 10_000_019, 100_000_007, 1_000_000_007, 1_073_709_056, 2_147_483_647, 3_221_127_169)
 TOP = LARGEST * LARGEST
 OUTSIDE = (0, 1, 99, 100, 200, 300, 399, LONGEST + 1, LONGEST + 100, 999_999_999_999)
-# told by their halves, since a script's numbers have thirteen digits at most; of the second and the third the low half alone would be a wanted period
+# told by their halves, as those of more than thirteen digits must be; of the second and the third the low half alone would be a wanted period
 WIDE = LONGEST, 2**40 + 1_000_000, 2**63 + 1_000_000, 2**64 - 1
 
 
@@ -78,7 +79,7 @@ if __name__ == "__main__":
         tell_gaps(s, window, at, 32, rng)
         tell(s, "place", at * TICK, window)
     highest = Window(TOP - 16 * LARGEST, TOP)
-    tell_gaps(s, highest, TOP - 8 * LARGEST, len(highest.products), rng)
+    tell_gaps(s, highest, 0, len(highest.products), rng)
     tell(s, "end", LONGEST, highest)
     tell(s, "end", LONGEST - 1, highest)
     for wanted in OUTSIDE:

@@ -1,14 +1,12 @@
 -- What the call answers, by the plain rule. Assumes nothing.
-use Prim.Native.Nat.{ℕ, _+_, _-_, _*_, _≤_, _<_}
-use mathlib.Core.Path.{_≡_, refl, sym, ap, ap₂, subst, _∙_}
+use Prim.Native.Nat.{ℕ, _≤_}
+use mathlib.Core.Path.{_≡_, refl, sym, ap, subst, _∙_}
 use mathlib.Core.Bool.{Bool, true, false, not}
 use mathlib.Core.List.{[], _∷_}
 use mathlib.Core.Logic.{_↔_}
 use native.Mathlib.Nat.{mul-comm}
 use native.Mathlib.Omega.{arith}
-use lib.Dec.{leb, eqb}
-use borrow.Author.Tests.{not-true, not-false, le-leb}
-use Rattle.wire.specs.Digits.{pick}
+use borrow.Author.Tests.{not-true, le-leb}
 use Rattle.wire.specs.Numbers.{_if_, given}
 use Rattle.wire.proofs.digits.Laws.{clash}
 use Rattle.wire.proofs.numbers.Laws.{given-exactly}
@@ -19,7 +17,7 @@ use Rattle.clock.specs.Setting.{setPeriodic}
 use Rattle.dividers.specs.declared.pairs.Pair.{Pair}
 use Rattle.dividers.specs.declared.nearest.Found.{Found}
 use Rattle.dividers.specs.Pairs.{pair, lawful, product, period, distance}
-use Rattle.dividers.specs.Nearest.{Nearest, nearest, wantedFits, wantedLines, nearestPair}
+use Rattle.dividers.specs.Nearest.{IsNearest, nearest, wantedFits, nearestPair}
 use Rattle.dividers.proofs.pairs.Laws.{within, is-lawful, turned}
 use Rattle.dividers.proofs.nearest.Laws.{one-nearest, nearest-is}
 
@@ -50,11 +48,11 @@ module _ (wanted : ℕ) (fits : wantedFits wanted ≡ true) where
   found-is = simp fits
 
   -- the pair given back is nearest by the plain rule
-  pub found-nearest : Nearest wanted (nearestPair wanted .pair)
-  found-nearest = subst (λ (r : Found). Nearest wanted (r .pair)) (sym found-is) (nearest-is wanted)
+  pub found-nearest : IsNearest wanted (nearestPair wanted .pair)
+  found-nearest = subst (λ (r : Found). IsNearest wanted (r .pair)) (sym found-is) (nearest-is wanted)
 
   -- and no other is
-  pub found-only : (p : Pair) → Nearest wanted p → p ≡ nearestPair wanted .pair
+  pub found-only : (p : Pair) → IsNearest wanted p → p ≡ nearestPair wanted .pair
   found-only p a = one-nearest wanted p (nearestPair wanted .pair) a found-nearest
 
   -- beside it stand its period and its distance
@@ -76,22 +74,19 @@ module _ (wanted : ℕ) (fits : wantedFits wanted ≡ true) where
 
 -- EXACT PAIRS
 
--- what the call answers with an exact pair
-abbrev pub exactly : Pair → Found
-exactly p = record { pair = p; period = period p; distance = 0; number = 0 }
-
 -- a lawful pair is given back for its own period, if none of its product has a smaller n1
-pub exact-found : (p : Pair) → lawful p ≡ true → ((q : Pair) → lawful q ≡ true → product q ≡ product p → p .n1 ≤ q .n1) → wantedFits (period p) ≡ true → nearestPair (period p) ≡ exactly p
+pub exact-found : (p : Pair) → lawful p ≡ true → ((q : Pair) → lawful q ≡ true → product q ≡ product p → p .n1 ≤ q .n1) → wantedFits (period p) ≡ true
+    → nearestPair (period p) ≡ record { pair = p; period = period p; distance = 0; number = 0 }
 exact-found p h first fits =
     found-is (period p) fits
     ∙ ap (λ (q : Pair). record { pair = q; period = period q; distance = distance (period p) q; number = 0 }) (one-nearest (period p) (nearest (period p)) p (nearest-is (period p)) by-rule)
     ∙ ap (λ (d : ℕ). record { pair = p; period = period p; distance = d; number = 0 }) (omega arith)
   where
-    by-rule : Nearest (period p) p
+    by-rule : IsNearest (period p) p
     by-rule = record { fits = h; least-distance = λ q l. omega arith; least-product = λ q l e. omega arith; least-n1 = first }
 
 -- so one with n1 = 2 always is
-pub exact-by-two : (n2 : ℕ) → 2 ≤ n2 → n2 ≤ 65535 → nearestPair (period (pair 2 n2)) ≡ exactly (pair 2 n2)
+pub exact-by-two : (n2 : ℕ) → 2 ≤ n2 → n2 ≤ 65535 → nearestPair (period (pair 2 n2)) ≡ record { pair = pair 2 n2; period = period (pair 2 n2); distance = 0; number = 0 }
 unfolding wantedFits
 exact-by-two n2 a b =
     exact-found (pair 2 n2) (is-lawful 2 n2 (omega arith) (omega arith) a b) (λ q l e. within q l .low1)

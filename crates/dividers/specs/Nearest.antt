@@ -1,5 +1,4 @@
--- The nearest sample period: the pair whose period is at the least distance from a wanted one; of equal distances the one with the smaller product; of equal products the one with
--- the smaller n1.
+-- The nearest sample period: the plain rule, the one pair that it names, and the call.
 use Prim.Native.Nat.{ℕ, zero, suc, _+_, _≤_, _<_}
 use mathlib.Core.Path.{_≡_}
 use mathlib.Core.Bool.{Bool, true, _&&_, _||_, not}
@@ -14,7 +13,7 @@ use Rattle.dividers.specs.Pairs.{pair, lawful, product, period, distance
 -- THE PLAIN RULE
 
 -- a lawful pair is nearest if no lawful pair has a smaller distance, none of equal distance has a smaller product, and none of equal product a smaller n1
-pub record Nearest (wanted : ℕ) (p : Pair) : Type 0 where
+pub record IsNearest (wanted : ℕ) (p : Pair) : Type 0 where
   pub fits : lawful p ≡ true
   pub least-distance : (q : Pair) → lawful q ≡ true → distance wanted p ≤ distance wanted q
   pub least-product : (q : Pair) → lawful q ≡ true → distance wanted q ≡ distance wanted p → product p ≤ product q

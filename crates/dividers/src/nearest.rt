@@ -7,7 +7,6 @@ use crate::pairs::measure;
 use crate::pairs::nearer;
 use wire::numbers;
 ghost use mathlib.Core.Path.{_≡_};
-ghost use mathlib.Core.Bool.{true};
 ghost use Prim.Native.Nat.{_≤_};
 ghost use Rattle.dividers.specs.Pairs.{measured};
 ghost use Rattle.dividers.specs.Nearest.{wantedFits, withN1, nearest, nearestPair, Begins};
@@ -25,9 +24,6 @@ const SHORTEST: u64 = 400;
 
 const LONGEST: u64 = 429_483_622_500;
 
-// The least n1 to begin with.
-const FIRST: u32 = 2;
-
 // What one more in n1 adds to a period at most, in nanoseconds.
 const LONGEST_STEP: u64 = 6_553_500;
 
@@ -37,14 +33,11 @@ fn first_n1(wanted: u64) -> u32
     ensures { λ r. ⌜ Begins wanted r ⌝ }
 {
     let n1 = (wanted / LONGEST_STEP) as u32;
-    if n1 < FIRST {
-        return FIRST;
-    }
-    n1
+    if n1 < SMALLEST { SMALLEST } else { n1 }
 }
 
 // The nearest n2 beside an n1: the wanted period over 100 × n1, rounded, a half down, and held at 2 and at 65,535.
-fn second_for(wanted: u64, n1: u32) -> u32
+fn n2_for(wanted: u64, n1: u32) -> u32
     requires { ⌜ (wanted ≤ 429483622500) × ((2 ≤ n1) × (n1 ≤ 65535)) ⌝ }
     ensures { λ r. ⌜ r ≡ withN1 wanted n1 .n2 ⌝ }
 {
@@ -64,11 +57,11 @@ fn with_n1(wanted: u64, n1: u32) -> Measured
     requires { ⌜ (wanted ≤ 429483622500) × ((2 ≤ n1) × (n1 ≤ 65535)) ⌝ }
     ensures { λ r. ⌜ r ≡ measured wanted (withN1 wanted n1) ⌝ }
 {
-    measure(wanted, n1, second_for(wanted, n1))
+    measure(wanted, n1, n2_for(wanted, n1))
 }
 
-// Of all lawful pairs, the nearest. n1 rises, so the first exact pair that is met has the least n1, and the search ends there at once. Else it ends where n1 × n1 is as far
-// above the wanted period as the best pair so far: a pair that was not met, either way round, has no divider below n1.
+// Of all lawful pairs, the nearest. n1 rises, so the first exact pair that is met has the least n1, and the search ends there at once. Else it ends where 100 × n1 × n1 is at
+// least as far above the wanted period as the best pair so far: a pair that was not met, either way round, has no divider below n1.
 fn search(wanted: u64) -> Measured
     requires { ⌜ wanted ≤ 429483622500 ⌝ }
     ensures { λ r. ⌜ r ≡ measured wanted (nearest wanted) ⌝ }
@@ -89,7 +82,7 @@ fn search(wanted: u64) -> Measured
 }
 
 // Whether a wanted period is 400 to 429,483,622,500 ns.
-fn is_wanted(wanted: u64) -> bool
+fn wanted_fits(wanted: u64) -> bool
     ensures { λ r. ⌜ r ≡ wantedFits wanted ⌝ }
 {
     if wanted < SHORTEST {
@@ -102,7 +95,7 @@ fn is_wanted(wanted: u64) -> bool
 pub fn nearest_pair(wanted: u64) -> Found
     ensures { λ r. ⌜ r ≡ nearestPair wanted ⌝ }
 {
-    if !is_wanted(wanted) {
+    if !wanted_fits(wanted) {
         return Found {
             pair: Pair { n1: 0, n2: 0 },
             period: 0,

@@ -69,14 +69,18 @@ module _ (wanted : ℕ) (most : wanted ≤ 429483622500) where
     pub exact : distance wanted (withN1 wanted n1) ≡ 0 → withN1 wanted n1 ≡ nearest wanted
     exact z = least-is wanted next next-fits least
       where
+        -- an exact pair has this n1 or a larger one
+        not-before : (q : Pair) → lawful q ≡ true → distance wanted q ≤ 0 → next .n1 ≤ q .n1
+        not-before q l s = ⊎-elim (λ (t : q .n1 < n1). absurd (let d = g .none q l t .0 in omega arith)) (λ (t : n1 ≤ q .n1). omega (arith, next-n1)) (lt-or-le (q .n1) n1)
+
         least : (q : Pair) → lawful q ≡ true → rank wanted next ≤ rank wanted q
         least q l =
             let a = within next next-fits in
             let b = within q l in
-            ⊎-elim (λ (s : q .n1 < n1). by-distance wanted next q a b (let t = g .none q l s .0 in omega arith))
-            (λ (s : n1 ≤ q .n1).
-            ⊎-elim (λ (t : 0 < distance wanted q). by-distance wanted next q a b (omega arith)) (λ (t : distance wanted q ≤ 0). by-n1 wanted next q a b (omega arith) (omega (arith, next-n1))) (lt-or-le 0 (distance wanted q)))
-            (lt-or-le (q .n1) n1)
+            ⊎-elim
+            (λ (s : 0 < distance wanted q). by-distance wanted next q a b (omega arith))
+            (λ (s : distance wanted q ≤ 0). by-n1 wanted next q a b (omega arith) (not-before q l s))
+            (lt-or-le 0 (distance wanted q))
 
     -- no exact pair: of it and the best, the one that comes before the other goes on
     pub goes-on : 0 < distance wanted (withN1 wanted n1) → Met wanted (n1 + 1) (pick (before wanted (withN1 wanted n1) best) (withN1 wanted n1) best)
@@ -114,7 +118,7 @@ module _ (wanted : ℕ) (most : wanted ≤ 429483622500) where
     pub distance-most : distance wanted best ≤ 429483622500
     distance-most = omega (arith, bounds .most)
 
-    -- n1 × n1 is as far above the wanted period as the best pair
+    -- 100 × n1 × n1 is at least as far above the wanted period as the best pair
     pub stops : wanted + distance wanted best ≤ 100 * (n1 * n1) → best ≡ nearest wanted
     stops h = least-is wanted best (g .fits) least
       where
@@ -134,10 +138,12 @@ module _ (wanted : ℕ) (most : wanted ≤ 429483622500) where
 
         least : (q : Pair) → lawful q ≡ true → rank wanted best ≤ rank wanted q
         least q l =
-            ⊎-elim (λ (s : q .n1 < n1). g .none q l s .1) (λ (s : n1 ≤ q .n1). ⊎-elim (λ (t : q .n2 < n1). turned-met q l s t) (λ (t : n1 ≤ q .n2). unmet q l s t) (lt-or-le (q .n2) n1))
+            ⊎-elim
+            (λ (s : q .n1 < n1). g .none q l s .1)
+            (λ (s : n1 ≤ q .n1). ⊎-elim (turned-met q l s) (unmet q l s) (lt-or-le (q .n2) n1))
             (lt-or-le (q .n1) n1)
 
-    -- behind the last n1 it is, since the best pair is as near as the one with the longest period
+    -- past 65,535 it has always stopped: the best pair is as near as the one with the longest period
     pub goes-within : n1 ≤ 65536 → 100 * (n1 * n1) < wanted + distance wanted best → n1 ≤ 65535
     goes-within l h = ⊎-elim (λ (s : n1 < 65536). omega arith) (λ (s : 65536 ≤ n1). absurd (last s)) (lt-or-le n1 65536)
       where

@@ -12,7 +12,7 @@ use Rattle.wire.proofs.digits.Laws.{lt-or-le, picked}
 use Rattle.wire.proofs.packets.Laws.{and-false}
 use Rattle.dividers.specs.declared.pairs.Pair.{Pair}
 use Rattle.dividers.specs.Pairs.{pair, lawful, product, distance, measured, nearer}
-use Rattle.dividers.specs.Nearest.{Nearest, before, firstOf, withN1, nearest}
+use Rattle.dividers.specs.Nearest.{IsNearest, before, firstOf, withN1, nearest}
 use Rattle.dividers.proofs.pairs.Laws.{Within, within, is-lawful, rank, by-distance, by-product, by-n1, rank-distance, rank-product, rank-n1, one-pair, one-rank}
 
 -- THE FIRST OF SOME PAIRS
@@ -21,6 +21,7 @@ use Rattle.dividers.proofs.pairs.Laws.{Within, within, is-lawful, rank,
 abbrev pub Least : ℕ → Pair → Pair → Pair → Type 0
 Least wanted r p q = (rank wanted r ≤ rank wanted p) × (rank wanted r ≤ rank wanted q)
 
+-- not less and not equal
 strictly : {m n : ℕ} → ltb m n ≡ false → eqb m n ≡ false → n < m
 strictly {m} {n} c d = let l = ltb-false m n c in let k = eqb-false m n d in omega arith
 
@@ -28,6 +29,7 @@ times-100 : (m n : ℕ) → ltb (100 * m) (100 * n) ≡ ltb m n
 times-100 m n = ⊎-elim (λ l. lt-ltb (100 * m) (100 * n) (omega arith) ∙ sym (lt-ltb m n l)) (λ g. le-ltb (100 * m) (100 * n) (omega arith) ∙ sym (le-ltb m n g)) (lt-or-le m n)
 
 module _ (wanted : ℕ) where
+  -- the one of two pairs that comes before the other
   pub sooner : (p q : Pair) → Within p → Within q → Least wanted (pick (before wanted p q) p q) p q
   unfolding before
   sooner p q a b = go _ _ _ _ _ refl refl refl refl refl
@@ -41,7 +43,7 @@ module _ (wanted : ℕ) where
       go false true false true true c d e f g = (le-refl _, by-n1 wanted p q a b (eqb-true _ _ f) (le-of-lt (ltb-true _ _ g)))
       go false true false true false c d e f g = (by-n1 wanted q p b a (sym (eqb-true _ _ f)) (ltb-false _ _ g), le-refl _)
 
-  -- of two pairs, one of which has no larger n1, `nearer` takes the one that comes before the other
+  -- of two pairs, the second of which has no larger n1, `nearer` takes the one that comes before the other
   pub nearer-is : (p q : Pair) → q .n1 ≤ p .n1 → nearer (measured wanted p) (measured wanted q) ≡ measured wanted (pick (before wanted p q) p q)
   unfolding before nearer
   nearer-is p q h =
@@ -90,7 +92,8 @@ module _ (wanted : ℕ) where
 
   first-of : (f : ℕ → Pair) (n : ℕ) → ((k : ℕ) → k ≤ n → lawful (f k) ≡ true) → First f n
   unfolding firstOf
-  first-of f zero fits = record { place = 0; low = le-refl 0; is = refl; least = λ k h. subst (λ (j : ℕ). rank wanted (f 0) ≤ rank wanted (f j)) (omega arith) (le-refl (rank wanted (f 0))) }
+  first-of f zero fits =
+      record { place = 0; low = le-refl 0; is = refl; least = λ k h. subst (λ (j : ℕ). rank wanted (f 0) ≤ rank wanted (f j)) (omega arith) (le-refl (rank wanted (f 0))) }
   first-of f (suc n) fits = first-step f n fits (first-of f n (λ k h. fits k (omega arith)))
 
   -- THE PAIRS WITH ONE N1
@@ -143,7 +146,7 @@ module _ (wanted : ℕ) where
       (row-least (q .n1) (w .low1) (w .high1) q h refl)
 
   -- a lawful pair of the least rank is nearest by the plain rule
-  by-rank : (p : Pair) → lawful p ≡ true → ((q : Pair) → lawful q ≡ true → rank wanted p ≤ rank wanted q) → Nearest wanted p
+  by-rank : (p : Pair) → lawful p ≡ true → ((q : Pair) → lawful q ≡ true → rank wanted p ≤ rank wanted q) → IsNearest wanted p
   by-rank p h least =
       record {
         fits = h;
@@ -160,7 +163,7 @@ module _ (wanted : ℕ) where
   -- THE PLAIN RULE
 
   -- two nearest pairs are the same pair
-  pub one-nearest : (p q : Pair) → Nearest wanted p → Nearest wanted q → p ≡ q
+  pub one-nearest : (p q : Pair) → IsNearest wanted p → IsNearest wanted q → p ≡ q
   one-nearest p q a b =
       one-pair wanted p q (within p (a .fits)) (within q (b .fits)) same-product
       (le-antisymm (a .least-n1 q (b .fits) (sym same-product)) (b .least-n1 p (a .fits) same-product))
@@ -172,9 +175,9 @@ module _ (wanted : ℕ) where
       same-product = le-antisymm (a .least-product q (b .fits) (sym same-distance)) (b .least-product p (a .fits) same-distance)
 
   -- for every wanted period there is one
-  pub nearest-is : Nearest wanted (nearest wanted)
+  pub nearest-is : IsNearest wanted (nearest wanted)
   nearest-is = by-rank (nearest wanted) nearest-fits nearest-least
 
   -- so a pair is nearest exactly if it is this one
-  pub nearest-exactly-if : (p : Pair) → Nearest wanted p ↔ p ≡ nearest wanted
-  nearest-exactly-if p = (λ a. one-nearest p (nearest wanted) a nearest-is, λ e. subst (λ (q : Pair). Nearest wanted q) (sym e) nearest-is)
+  pub nearest-exactly-if : (p : Pair) → IsNearest wanted p ↔ p ≡ nearest wanted
+  nearest-exactly-if p = (λ a. one-nearest p (nearest wanted) a nearest-is, λ e. subst (λ (q : Pair). IsNearest wanted q) (sym e) nearest-is)

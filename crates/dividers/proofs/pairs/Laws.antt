@@ -1,13 +1,12 @@
 -- Lawful pairs, and the rule between two pairs as an order of numbers: a pair's rank has its distance in front, its product behind that, and its n1 last. Assumes nothing.
-use Prim.Native.Nat.{ℕ, _+_, _-_, _*_, _≤_, _<_}
-use mathlib.Core.Path.{_≡_, refl, sym, ap, ap₂, _∙_}
+use Prim.Native.Nat.{ℕ, _+_, _*_, _≤_, _<_}
+use mathlib.Core.Path.{_≡_, sym, ap, ap₂, _∙_}
 use mathlib.Core.Bool.{true}
-use mathlib.Core.Logic.{_↔_}
-use native.Mathlib.Nat.{mul-le-mul, mul-comm, eq-of-mul-eq-mul-left}
+use native.Mathlib.Nat.{mul-le-mul, eq-of-mul-eq-mul-left}
 use native.Mathlib.Omega.{arith}
 use Rattle.clock.proofs.setting.Laws.{pair-fits}
 use Rattle.dividers.specs.declared.pairs.Pair.{Pair}
-use Rattle.dividers.specs.Pairs.{pair, lawful, product, period, distance}
+use Rattle.dividers.specs.Pairs.{pair, lawful, product, distance}
 
 -- what a lawful pair is within
 pub record Within (p : Pair) : Type 0 where
@@ -25,10 +24,11 @@ within p h =
 pub is-lawful : (n1 n2 : ℕ) → 2 ≤ n1 → n1 ≤ 65535 → 2 ≤ n2 → n2 ≤ 65535 → lawful (pair n1 n2) ≡ true
 is-lawful n1 n2 a b c d = pair-fits n1 n2 .1 (a, (b, (c, d)))
 
--- the other way round a pair is lawful too, and has the same product
+-- the other way round a pair is lawful too
 pub turned : (p : Pair) → lawful p ≡ true → lawful (pair (p .n2) (p .n1)) ≡ true
 turned p h = let w = within p h in is-lawful (p .n2) (p .n1) (w .low2) (w .high2) (w .low1) (w .high1)
 
+-- products are below 2^32, and n1 below 2^16
 abbrev pub rank : ℕ → Pair → ℕ
 rank wanted p = (distance wanted p * 4294967296 + product p) * 65536 + p .n1
 
@@ -55,11 +55,12 @@ module _ (wanted : ℕ) (p q : Pair) (a : Within p) (b : Within q) where
   pub rank-n1 : rank wanted p ≤ rank wanted q → product q ≡ product p → p .n1 ≤ q .n1
   rank-n1 h e = omega arith
 
-  -- two pairs of one rank are one pair
+  -- of one product and one n1 there is one pair
   pub one-pair : product p ≡ product q → p .n1 ≡ q .n1 → p ≡ q
   one-pair e f =
       ap₂ pair f
       (eq-of-mul-eq-mul-left (p .n1) (omega arith) (p .n2) (q .n2) (e ∙ ap (λ (n : ℕ). n * q .n2) (sym f)))
 
+  -- and so of one rank
   pub one-rank : rank wanted p ≤ rank wanted q → rank wanted q ≤ rank wanted p → p ≡ q
   one-rank g h = one-pair (omega arith) (omega arith)

@@ -1,6 +1,6 @@
 -- `nearest::search` meets its contract. The loop's invariant: every n1 before this one is met, and this one is 65,535 at most; the measure is what is left of them.
 -- Assumes nothing.
-use Prim.Native.Nat.{ℕ, _+_, _-_, _*_, _≤_, _<_}
+use Prim.Native.Nat.{ℕ, _+_, _-_, _*_, _≤_}
 use mathlib.Core.Path.{_≡_, refl, sym, ap, ap₂, _∙_}
 use native.Mathlib.Nat.{mul-le-mul}
 use native.Mathlib.Omega.{arith}
@@ -13,8 +13,12 @@ use Rattle.dividers.proofs.nearest.Going.{Met, begins, exact, goes-on, 
 use Rattle.dividers.proofs.nearest.search.Statement.{statement}
 use Rattle.dividers.proofs.nearest.search.Tie as tie
 
+-- the best so far, measured, with every n1 before this one met
+abbrev Best : ℕ → ℕ → Measured → Type 0
+Best wanted n1 best = (best ≡ measured wanted (best .pair)) × Met wanted n1 (best .pair)
+
 abbrev Inv-loop : tie.InvT-loop
-Inv-loop wanted n1₀ best₀ n1 best = (best ≡ measured wanted (best .pair)) × (Met wanted n1 (best .pair) × (n1 ≤ 65535))
+Inv-loop wanted n1₀ best₀ n1 best = Best wanted n1 best × (n1 ≤ 65535)
 
 abbrev μ-loop : tie.MeasureT-loop
 μ-loop wanted n1₀ best₀ n1 best = 65536 - n1
@@ -29,32 +33,30 @@ loop-holds : tie.Need-loop-holds Inv-loop μ-loop
 loop-holds c =
     let s = c .before .before in
     let f = c .before .first-n1 in
-    rw (c .measure .ensures) (refl, (begins (s .args .wanted) (s .pre) (f .result) (f .ensures), f .ensures .high))
+    rw (c .measure .ensures) ((refl, begins (s .args .wanted) (s .pre) (f .result) (f .ensures)), f .ensures .high)
 
 with-n1-requires : tie.Need-with-n1-requires Inv-loop μ-loop
-with-n1-requires c κs = (c .before .before .before .pre, (c .loop .inv .1 .0 .low, c .loop .inv .1 .1))
+with-n1-requires c κs = (c .before .before .before .pre, (c .loop .inv .0 .1 .low, c .loop .inv .1))
 
 nearer-requires : tie.Need-nearer-requires Inv-loop μ-loop
 nearer-requires c κs = search needs
 
--- the distance of the pair that was tried
-tried : (c : tie.After-with-n1 Inv-loop μ-loop) → c .with-n1 .result .distance ≡ distance (c .before .before .before .before .args .wanted) (withN1 (c .before .before .before .before .args .wanted) (c .before .loop .n1))
-tried c = ap (λ (p : Measured). p .distance) (c .with-n1 .ensures)
+same-distance : {m n : Measured} → m ≡ n → m .distance ≡ n .distance
+same-distance e = ap (λ (m : Measured). m .distance) e
 
 -- after a turn that met no exact pair
-abbrev Next : ℕ → ℕ → Measured → Type 0
-Next wanted n1 best = (best ≡ measured wanted (best .pair)) × Met wanted n1 (best .pair)
-
-met : (c : tie.After-nearer Inv-loop μ-loop) → Next (c .before .before .before .before .before .before .before .args .wanted) (c .before .before .before .before .loop .n1 + 1) (c .nearer .result)
+met : (c : tie.After-nearer Inv-loop μ-loop)
+    → Best (c .before .before .before .before .before .before .before .args .wanted) (c .before .before .before .before .loop .n1 + 1) (c .nearer .result)
 met c =
-    let w = c .before .before .before in
-    let l = w .before in
+    let w = c .before .before .before .with-n1 in
+    let l = c .before .before .before .before in
     let s = l .before .before .before in
-    let i = l .loop .inv in
+    let b = l .loop .inv .0 in
     let z = c .before .if1 .left in
-    let n = row-n1 (s .args .wanted) (l .loop .n1) (i .1 .0 .low) (i .1 .1) in
-    rw (c .nearer .ensures ∙ ap₂ nearer (w .with-n1 .ensures) (i .0) ∙ nearer-is (s .args .wanted) (withN1 (s .args .wanted) (l .loop .n1)) (l .loop .best .pair) (omega (arith, i .1 .0 .from)))
-    (refl, goes-on (s .args .wanted) (s .pre) (l .loop .n1) (l .loop .best .pair) (i .1 .0) (i .1 .1) (omega (arith, tried w)))
+    let n = row-n1 (s .args .wanted) (l .loop .n1) (b .1 .low) (l .loop .inv .1) in
+    let e = nearer-is (s .args .wanted) (withN1 (s .args .wanted) (l .loop .n1)) (l .loop .best .pair) (omega (arith, b .1 .from)) in
+    rw (c .nearer .ensures ∙ ap₂ nearer (w .ensures) (b .0) ∙ e)
+    (refl, goes-on (s .args .wanted) (s .pre) (l .loop .n1) (l .loop .best .pair) (b .1) (l .loop .inv .1) (omega (arith, same-distance (w .ensures))))
 
 add-n1 : tie.Need-add-n1 Inv-loop μ-loop
 add-n1 c = omega arith
@@ -68,7 +70,7 @@ add-if2 c =
     let l = c .before .before .before .before .before in
     let s = l .before .before .before in
     let m = met (c .before) in
-    omega (arith, ap (λ (p : Measured). p .distance) (m .0), distance-most (s .args .wanted) (s .pre) (l .loop .n1 + 1) (c .before .nearer .result .pair) (m .1))
+    omega (arith, same-distance (m .0), distance-most (s .args .wanted) (s .pre) (l .loop .n1 + 1) (c .before .nearer .result .pair) (m .1))
 
 cast-if2 : tie.Need-cast-if2 Inv-loop μ-loop
 cast-if2 c = omega arith
@@ -77,10 +79,10 @@ cast-if2-2 : tie.Need-cast-if2-2 Inv-loop μ-loop
 cast-if2-2 c = omega arith
 
 mul-if2 : tie.Need-mul-if2 Inv-loop μ-loop
-mul-if2 c = let l = c .before .before .before .before .before in omega (arith, square (l .loop .n1) (l .loop .inv .1 .1))
+mul-if2 c = let l = c .before .before .before .before .before in omega (arith, square (l .loop .n1) (l .loop .inv .1))
 
 mul-if2-2 : tie.Need-mul-if2-2 Inv-loop μ-loop
-mul-if2-2 c = let l = c .before .before .before .before .before in omega (arith, square (l .loop .n1) (l .loop .inv .1 .1))
+mul-if2-2 c = let l = c .before .before .before .before .before in omega (arith, square (l .loop .n1) (l .loop .inv .1))
 
 loop-less : tie.Need-loop-less Inv-loop μ-loop
 loop-less c = omega arith
@@ -90,21 +92,23 @@ loop-again c =
     let l = c .before .before .before .before .before .before in
     let s = l .before .before .before in
     let m = met (c .before .before) in
-    (m .0, (m .1, goes-within (s .args .wanted) (s .pre) (l .loop .n1 + 1) (c .before .before .nearer .result .pair) (m .1) (omega arith) (omega (arith, c .if2 .left, ap (λ (p : Measured). p .distance) (m .0)))))
+    (m, goes-within (s .args .wanted) (s .pre) (l .loop .n1 + 1) (c .before .before .nearer .result .pair) (m .1) (omega arith) (omega (arith, c .if2 .left, same-distance (m .0))))
 
 returns : tie.Need-returns Inv-loop μ-loop
 returns c =
-    let w = c .before .before in
-    let l = w .before in
+    let w = c .before .before .with-n1 in
+    let l = c .before .before .before in
     let s = l .before .before .before in
-    w .with-n1 .ensures ∙ ap (measured (s .args .wanted)) (exact (s .args .wanted) (s .pre) (l .loop .n1) (l .loop .best .pair) (l .loop .inv .1 .0) (l .loop .inv .1 .1) (sym (tried w) ∙ c .if1 .taken))
+    let z = sym (same-distance (w .ensures)) ∙ c .if1 .taken in
+    w .ensures ∙ ap (measured (s .args .wanted)) (exact (s .args .wanted) (s .pre) (l .loop .n1) (l .loop .best .pair) (l .loop .inv .0 .1) (l .loop .inv .1) z)
 
 returns-2 : tie.Need-returns-2 Inv-loop μ-loop
 returns-2 c =
     let l = c .before .before .before .before .before .before in
     let s = l .before .before .before in
+    let b = c .before .before .nearer .result .pair in
     let m = met (c .before .before) in
-    m .0 ∙ ap (measured (s .args .wanted)) (stops (s .args .wanted) (s .pre) (l .loop .n1 + 1) (c .before .before .nearer .result .pair) (m .1) (omega (arith, c .if2 .taken, ap (λ (p : Measured). p .distance) (m .0))))
+    m .0 ∙ ap (measured (s .args .wanted)) (stops (s .args .wanted) (s .pre) (l .loop .n1 + 1) b (m .1) (omega (arith, c .if2 .taken, same-distance (m .0))))
 
 pub search-spec : {M : Type 1} → statement M
 search-spec =

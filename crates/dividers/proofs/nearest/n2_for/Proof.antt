@@ -1,9 +1,10 @@
--- `nearest::second_for` meets its contract: the rounded quotient, held at both ends.
+-- `nearest::n2_for` meets its contract: the rounded quotient, held at both ends.
 -- Assumes nothing.
+use native.Mathlib.Omega.{arith}
 use borrow.Author.Needs.{needs}
 use Rattle.dividers.proofs.nearest.Rows.{held-low, held-high, not-held}
-use Rattle.dividers.proofs.nearest.second_for.Statement.{statement}
-use Rattle.dividers.proofs.nearest.second_for.Tie as tie
+use Rattle.dividers.proofs.nearest.n2_for.Statement.{statement}
+use Rattle.dividers.proofs.nearest.n2_for.Tie as tie
 
 mul-n2 : tie.Need-mul-n2
 mul-n2 c = search needs
@@ -24,22 +25,22 @@ cast-if1 : tie.Need-cast-if1
 cast-if1 c = search needs
 
 returns : tie.Need-returns
-returns c = let s = c .before in held-low (s .args .wanted) (s .args .n1) (s .pre .1 .0) (s .pre .1 .1) (c .if1 .taken)
+returns c = let s = c .before in held-low (s .args .wanted) (s .args .n1) (s .pre .1 .0) (s .pre .1 .1) _ (omega arith) (c .if1 .taken)
 
 cast-if2 : tie.Need-cast-if2
 cast-if2 c = search needs
 
 returns-2 : tie.Need-returns-2
-returns-2 c = let s = c .before .before in held-high (s .args .wanted) (s .args .n1) (s .pre .1 .0) (s .pre .1 .1) (c .if2 .taken)
+returns-2 c = let s = c .before .before in held-high (s .args .wanted) (s .args .n1) (s .pre .1 .0) (s .pre .1 .1) _ (omega arith) (c .if2 .taken)
 
 cast-result : tie.Need-cast-result
 cast-result c = search needs
 
 returns-3 : tie.Need-returns-3
-returns-3 c = let s = c .before .before in not-held (s .args .wanted) (s .args .n1) (s .pre .1 .0) (s .pre .1 .1) (c .before .if1 .left) (c .if2 .left)
+returns-3 c = let s = c .before .before in not-held (s .args .wanted) (s .args .n1) (s .pre .1 .0) (s .pre .1 .1) _ (omega arith) (c .before .if1 .left) (c .if2 .left)
 
-pub second-for-spec : {M : Type 1} → statement M
-second-for-spec =
+pub n2-for-spec : {M : Type 1} → statement M
+n2-for-spec =
     tie.close
     (tie.spec
     mul-n2

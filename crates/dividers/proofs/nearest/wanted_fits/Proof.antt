@@ -1,9 +1,9 @@
--- `nearest::is_wanted` meets its contract.
+-- `nearest::wanted_fits` meets its contract.
 -- Assumes nothing.
 use borrow.Author.Tests.{lt-leb, le-leb}
 use Rattle.dividers.specs.Nearest.{wantedFits}
-use Rattle.dividers.proofs.nearest.is_wanted.Statement.{statement}
-use Rattle.dividers.proofs.nearest.is_wanted.Tie as tie
+use Rattle.dividers.proofs.nearest.wanted_fits.Statement.{statement}
+use Rattle.dividers.proofs.nearest.wanted_fits.Tie as tie
 
 returns : tie.Need-returns
 unfolding wantedFits
@@ -13,5 +13,5 @@ returns-2 : tie.Need-returns-2
 unfolding wantedFits
 returns-2 c = simp (le-leb _ _ (c .if1 .left))
 
-pub is-wanted-spec : {M : Type 1} → statement M
-is-wanted-spec = tie.close (tie.spec returns returns-2)
+pub wanted-fits-spec : {M : Type 1} → statement M
+wanted-fits-spec = tie.close (tie.spec returns returns-2)
