@@ -60,8 +60,9 @@ fn with_n1(wanted: u64, n1: u32) -> Measured
     measure(wanted, n1, n2_for(wanted, n1))
 }
 
-// Of all lawful pairs, the nearest. n1 rises, so the first exact pair that is met has the least n1, and the search ends there at once. Else it ends where 100 × n1 × n1 is at
-// least as far above the wanted period as the best pair so far: a pair that was not met, either way round, has no divider below n1.
+// Of all lawful pairs, the nearest. The best so far is first the pair with 65,535, which is nearer than all with a smaller n1. n1 rises, so the first exact pair that is met has
+// the least n1, and the search ends there at once. Else it ends where 100 × n1 × n1 is at least as far above the wanted period as the best so far: a pair that was not met,
+// either way round, has no divider below n1.
 fn search(wanted: u64) -> Measured
     requires { ⌜ wanted ≤ 429483622500 ⌝ }
     ensures { λ r. ⌜ r ≡ measured wanted (nearest wanted) ⌝ }
