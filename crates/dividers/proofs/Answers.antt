@@ -74,11 +74,16 @@ module _ (wanted : ℕ) (fits : wantedFits wanted ≡ true) where
 
 -- EXACT PAIRS
 
+-- the period of every lawful pair may be wanted
+pub period-wanted : (p : Pair) → lawful p ≡ true → wantedFits (period p) ≡ true
+unfolding wantedFits
+period-wanted p h = let w = within p h in simp (le-leb 400 (period p) (omega arith), le-leb (period p) 429483622500 (omega arith))
+
 -- a lawful pair is given back for its own period, if none of its product has a smaller n1
-pub exact-found : (p : Pair) → lawful p ≡ true → ((q : Pair) → lawful q ≡ true → product q ≡ product p → p .n1 ≤ q .n1) → wantedFits (period p) ≡ true
+pub exact-found : (p : Pair) → lawful p ≡ true → ((q : Pair) → lawful q ≡ true → product q ≡ product p → p .n1 ≤ q .n1)
     → nearestPair (period p) ≡ record { pair = p; period = period p; distance = 0; number = 0 }
-exact-found p h first fits =
-    found-is (period p) fits
+exact-found p h first =
+    found-is (period p) (period-wanted p h)
     ∙ ap (λ (q : Pair). record { pair = q; period = period q; distance = distance (period p) q; number = 0 }) (one-nearest (period p) (nearest (period p)) p (nearest-is (period p)) by-rule)
     ∙ ap (λ (d : ℕ). record { pair = p; period = period p; distance = d; number = 0 }) (omega arith)
   where
@@ -87,10 +92,7 @@ exact-found p h first fits =
 
 -- so one with n1 = 2 always is
 pub exact-by-two : (n2 : ℕ) → 2 ≤ n2 → n2 ≤ 65535 → nearestPair (period (pair 2 n2)) ≡ record { pair = pair 2 n2; period = period (pair 2 n2); distance = 0; number = 0 }
-unfolding wantedFits
-exact-by-two n2 a b =
-    exact-found (pair 2 n2) (is-lawful 2 n2 (omega arith) (omega arith) a b) (λ q l e. within q l .low1)
-    (simp (le-leb 400 (period (pair 2 n2)) (omega arith), le-leb (period (pair 2 n2)) 429483622500 (omega arith)))
+exact-by-two n2 a b = exact-found (pair 2 n2) (is-lawful 2 n2 (omega arith) (omega arith) a b) (λ q l e. within q l .low1)
 
 -- 1,000,000 ns gives 2 and 5,000
 pub page-example : nearestPair 1000000 ≡ record { pair = pair 2 5000; period = 1000000; distance = 0; number = 0 }

@@ -8,18 +8,30 @@ use Rattle.clock.proofs.setting.Laws.{pair-fits}
 use Rattle.dividers.specs.declared.pairs.Pair.{Pair}
 use Rattle.dividers.specs.Pairs.{pair, lawful, product, distance}
 
+-- what two dividers make at most
+pub product-most : (n1 n2 : ℕ) → n1 ≤ 65535 → n2 ≤ 65535 → n1 * n2 ≤ 4294836225
+product-most n1 n2 a b = mul-le-mul {n₁ = n1} {m₁ = n2} {n₂ = 65535} {m₂ = 65535} a b
+
 -- what a lawful pair is within
 pub record Within (p : Pair) : Type 0 where
   pub low1 : 2 ≤ p .n1
   pub high1 : p .n1 ≤ 65535
   pub low2 : 2 ≤ p .n2
   pub high2 : p .n2 ≤ 65535
+  pub least : 4 ≤ product p
   pub most : product p ≤ 4294836225
 
 pub within : (p : Pair) → lawful p ≡ true → Within p
 within p h =
     let w = pair-fits (p .n1) (p .n2) .0 h in
-    record { low1 = w .0; high1 = w .1 .0; low2 = w .1 .1 .0; high2 = w .1 .1 .1; most = mul-le-mul {n₁ = p .n1} {m₁ = p .n2} {n₂ = 65535} {m₂ = 65535} (w .1 .0) (w .1 .1 .1) }
+    record {
+      low1 = w .0;
+      high1 = w .1 .0;
+      low2 = w .1 .1 .0;
+      high2 = w .1 .1 .1;
+      least = mul-le-mul {n₁ = 2} {m₁ = 2} {n₂ = p .n1} {m₂ = p .n2} (w .0) (w .1 .1 .0);
+      most = product-most (p .n1) (p .n2) (w .1 .0) (w .1 .1 .1);
+    }
 
 pub is-lawful : (n1 n2 : ℕ) → 2 ≤ n1 → n1 ≤ 65535 → 2 ≤ n2 → n2 ≤ 65535 → lawful (pair n1 n2) ≡ true
 is-lawful n1 n2 a b c d = pair-fits n1 n2 .1 (a, (b, (c, d)))

@@ -2,19 +2,19 @@
 -- Assumes nothing.
 use Prim.Native.Nat.{ℕ, _-_}
 use mathlib.Core.Path.{ap}
-use native.Mathlib.Nat.{mul-le-mul}
 use native.Mathlib.Omega.{arith}
 use borrow.Author.Needs.{needs}
 use Rattle.dividers.specs.declared.pairs.Measured.{Measured}
 use Rattle.dividers.specs.Pairs.{pair, period, distance}
+use Rattle.dividers.proofs.pairs.Laws.{product-most}
 use Rattle.dividers.proofs.pairs.measure.Statement.{statement}
 use Rattle.dividers.proofs.pairs.measure.Tie as tie
 
 mul-period : tie.Need-mul-period
-mul-period c = omega (arith, mul-le-mul {n₁ = c .args .n1} {m₁ = c .args .n2} {n₂ = 65535} {m₂ = 65535} (c .pre .0) (c .pre .1))
+mul-period c = omega (arith, product-most (c .args .n1) (c .args .n2) (c .pre .0) (c .pre .1))
 
 mul-period-2 : tie.Need-mul-period-2
-mul-period-2 c = omega (arith, mul-le-mul {n₁ = c .args .n1} {m₁ = c .args .n2} {n₂ = 65535} {m₂ = 65535} (c .pre .0) (c .pre .1))
+mul-period-2 c = omega (arith, product-most (c .args .n1) (c .args .n2) (c .pre .0) (c .pre .1))
 
 sub-distance : tie.Need-sub-distance
 sub-distance c = search needs
