@@ -42,3 +42,9 @@ pub const NOT_SAVED: u8 = 19;
 pub const OUTSIDE_SWITCH: u8 = 20;
 
 pub const OUTSIDE_PERIOD: u8 = 21;
+
+pub const WRONG_MARKER: u8 = 22;
+
+pub const SPARE_SET: u8 = 23;
+
+pub const SECONDS_DIFFER: u8 = 24;

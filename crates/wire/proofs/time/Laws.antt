@@ -2,8 +2,9 @@
 use Prim.Native.Nat.{ℕ, _+_, _*_, _/_, _%_, _<_}
 use mathlib.Core.Path.{_≡_, sym, _∙_, ap}
 use native.Mathlib.Nat.{div-div-eq-div-mul, div-add-mod'}
+use native.Mathlib.Omega.{arith}
 use lib.Arith.{digits-div, digits-mod}
-use Rattle.wire.specs.Time.{hourOf, minuteOf, secondOf, fractionOf, tickAt}
+use Rattle.wire.specs.Time.{ticksOfDay, hourOf, minuteOf, secondOf, fractionOf, tickAt}
 
 -- put together again, the parts of a tick of day are that tick
 pub parts : (t : ℕ) → tickAt (hourOf t) (minuteOf t) (secondOf t) (fractionOf t) ≡ t
@@ -36,3 +37,39 @@ module _ (h m s f : ℕ) (hm : m < 60) (hs : s < 60) (hf : f < 10000000) where
   pub fraction-at : fractionOf (tickAt h m s f) ≡ f
   unfolding fractionOf tickAt
   fraction-at = digits-mod ((h * 60 + m) * 60 + s) hf
+
+-- a tick of day without its fraction has the same hour, minute and second
+
+module _ (t : ℕ) where
+  abbrev whole : ℕ
+  whole = t / 10000000 * 10000000
+
+  pub hour-whole : hourOf whole ≡ hourOf t
+  unfolding hourOf
+  hour-whole = omega arith
+
+  pub minute-whole : minuteOf whole ≡ minuteOf t
+  unfolding minuteOf
+  minute-whole = omega arith
+
+  pub second-whole : secondOf whole ≡ secondOf t
+  unfolding secondOf
+  second-whole = omega arith
+
+  pub fraction-whole : fractionOf whole ≡ 0
+  unfolding fractionOf
+  fraction-whole = omega arith
+
+-- and all of them are small
+
+pub hour-below : (t : ℕ) → t < ticksOfDay → hourOf t < 24
+unfolding hourOf
+hour-below t l = omega arith
+
+pub minute-below : (t : ℕ) → minuteOf t < 60
+unfolding minuteOf
+minute-below t = omega arith
+
+pub second-below : (t : ℕ) → secondOf t < 60
+unfolding secondOf
+second-below t = omega arith

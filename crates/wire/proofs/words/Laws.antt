@@ -7,12 +7,12 @@ use mathlib.Core.List.{List, [], _∷_, _++_}
 use native.Mathlib.Nat.{div-one, div-div-eq-div-mul}
 use native.Mathlib.Omega.{arith}
 use lib.Dec.{leb, ltb, eqb, lit<, lit≤, leb·suc-suc, leb·suc-zero, eqb·suc-zero}
-use lib.ListN.{length, take, drop, getD}
+use lib.ListN.{length, take, drop, getD, replicate}
 use lib.Seq.{ext-getD}
 use borrow.Author.Tests.{lt-ltb, le-leb, ltb-true, ltb-false, leb-true}
 use Rattle.wire.specs.Digits.{digits, num, below, packed, unpacked}
 use Rattle.wire.specs.Time.{ticksOfDay, hourOf, minuteOf, secondOf, fractionOf, tickAt}
-use Rattle.wire.specs.Words.{timeDigits, pairsOf, wordsOf, wordsOrZero, writable, decimal, field, dayIn, hourIn, minuteIn, secondIn, fractionIn, tickIn, inRange, digitsRefusal, readDigits, timeRead}
+use Rattle.wire.specs.Words.{timeDigits, pairsOf, wordsOf, wordsOrZero, writable, decimal, field, dayIn, hourIn, minuteIn, secondIn, fractionIn, tickIn, inRange, digitsRefusal, readDigits, timeRead, readWords}
 use Rattle.wire.proofs.digits.Laws.{and-left, and-right, and-assoc, and-true, below-at, below-both, below-append, below-more, digits-below, num-below, mod-div, digits-split, digits-mod-pow, digits-of-digits, unpacked-append, num-append, written, packed-length}
 
 -- what `writable` tests
@@ -247,3 +247,36 @@ module _ (ds : List ℕ) where
 pub words-five : (day tick : ℕ) → length (wordsOf day tick) ≡ 5
 unfolding wordsOf
 words-five day tick = packed-length 16 4 5 (timeDigits day tick)
+
+-- WORDS AND THEIR DIGITS, FOR THOSE WHO TAKE A TIME APART
+
+-- words are read by their digits
+pub read-by-digits : (ws : List ℕ) → readWords ws ≡ readDigits (unpacked 16 4 ws)
+unfolding readWords
+read-by-digits ws = refl
+
+module _ (day tick : ℕ) where
+  -- the first three words: day, hour, minute and second
+  pub hundreds-word : getD (wordsOf day tick) 0 0 ≡ day / 100 % 10
+  unfolding wordsOf packed timeDigits digits num
+  hundreds-word = omega arith
+
+  pub days-and-hours-word : getD (wordsOf day tick) 1 0 ≡ (day / 10 % 10 * 16 + day % 10) * 256 + (hourOf tick / 10 % 10 * 16 + hourOf tick % 10)
+  unfolding wordsOf packed timeDigits digits num
+  days-and-hours-word = simp div-one (omega arith)
+
+  pub minutes-and-seconds-word : getD (wordsOf day tick) 2 0 ≡ (minuteOf tick / 10 % 10 * 16 + minuteOf tick % 10) * 256 + (secondOf tick / 10 % 10 * 16 + secondOf tick % 10)
+  unfolding wordsOf packed timeDigits digits num
+  minutes-and-seconds-word = simp div-one (omega arith)
+
+  -- and their digits, with the fraction behind them
+  pub time-digits : timeDigits day tick
+      ≡ 0 ∷ 0 ∷ 0 ∷ day / 100 % 10 ∷ day / 10 % 10 ∷ day % 10 ∷ hourOf tick / 10 % 10 ∷ hourOf tick % 10
+      ∷ minuteOf tick / 10 % 10 ∷ minuteOf tick % 10 ∷ secondOf tick / 10 % 10 ∷ secondOf tick % 10 ∷ (digits 10 7 (fractionOf tick) ++ (0 ∷ []))
+  unfolding timeDigits digits
+  time-digits = simp div-one
+
+-- digits without a fraction write a whole second
+pub whole-second : (ds : List ℕ) → take 7 (drop 12 ds) ≡ replicate 7 0 → tickIn ds ≡ tickIn ds / 10000000 * 10000000
+unfolding field num tickAt
+whole-second ds z = let f : fractionIn ds ≡ 0 = ap (num 10) z in omega arith

@@ -2,7 +2,7 @@
 -- for what was read. So no two times of a year share words, and nothing that reads has a second meaning. By the laws of digits.
 -- Assumes nothing.
 use Prim.Native.Nat.{ℕ, _*_, _/_, _%_, _≤_, _<_}
-use mathlib.Core.Path.{_≡_, refl, sym, _∙_, ap}
+use mathlib.Core.Path.{_≡_, refl, sym, _∙_, ap, ap₂}
 use mathlib.Core.Bool.{Bool, true, false, _&&_, not}
 use mathlib.Core.List.{List, [], _∷_, _++_}
 use native.Mathlib.Omega.{arith}
@@ -28,7 +28,7 @@ module _ (day tick : ℕ) where
   unfolding timeDigits below
   digits-ten = simp (below-both 10, digits-below 10 (lit< tt))
 
-  digits-decimal : decimal (timeDigits day tick) ≡ true
+  pub digits-decimal : decimal (timeDigits day tick) ≡ true
   unfolding decimal timeDigits digits below
   digits-decimal = ap (λ (t : Bool). t && true) digits-ten
 
@@ -37,7 +37,7 @@ module _ (day tick : ℕ) where
   same-digits = unpack-packed 16 (lit< tt) 4 5 (timeDigits day tick) refl (below-more 10 16 (lit≤ tt) (timeDigits day tick) digits-ten)
 
   module _ (w : writable day tick ≡ true) where
-    day-back : dayIn (timeDigits day tick) ≡ day
+    pub day-back : dayIn (timeDigits day tick) ≡ day
     unfolding field timeDigits digits
     day-back = written 10 (lit< tt) 3 day (let d = writable-day day tick w in omega arith)
 
@@ -64,12 +64,18 @@ module _ (day tick : ℕ) where
         let t = writable-tick day tick w in
         simp (le-leb 1 day (omega arith), le-leb day 366 (omega arith), le-leb (tick / 36000000000) 23 (omega arith), le-leb (tick / 600000000 % 60) 59 (omega arith), le-leb (tick / 10000000 % 60) 59 (omega arith))
 
+    pub digits-in-range : inRange (dayIn (timeDigits day tick)) (hourIn (timeDigits day tick)) (minuteIn (timeDigits day tick)) (secondIn (timeDigits day tick)) ≡ true
+    digits-in-range = simp (day-back, hour-back, minute-back, second-back) back-in-range
+
+    pub tick-back : tickIn (timeDigits day tick) ≡ tick
+    tick-back = simp (hour-back, minute-back, second-back, fraction-back, parts)
+
     pub read-written : readWords (wordsOf day tick) ≡ timeRead 0 day tick
     unfolding readWords
     read-written =
         ap readDigits same-digits
-        ∙ read-done (timeDigits day tick) digits-decimal (simp (day-back, hour-back, minute-back, second-back) back-in-range)
-        ∙ simp (day-back, hour-back, minute-back, second-back, fraction-back, parts)
+        ∙ read-done (timeDigits day tick) digits-decimal digits-in-range
+        ∙ ap₂ (timeRead 0) day-back tick-back
 
 -- READ, THEN WRITTEN
 
@@ -123,7 +129,7 @@ module _ (ds : List ℕ) (l : length ds ≡ 20) (x : decimal ds ≡ true) (r : i
   fraction-again : fractionOf (tickIn ds) ≡ fractionIn ds
   fraction-again = let q = in-range _ _ _ _ r in fraction-at (hourIn ds) (minuteIn ds) (secondIn ds) (fractionIn ds) (omega arith) (omega arith) small
 
-  digits-again : timeDigits (dayIn ds) (tickIn ds) ≡ ds
+  pub digits-again : timeDigits (dayIn ds) (tickIn ds) ≡ ds
   unfolding timeDigits field
   digits-again =
       cc (
@@ -141,7 +147,7 @@ module _ (ds : List ℕ) (l : length ds ≡ 20) (x : decimal ds ≡ true) (r : i
         read-part 10 (lit< tt) 12 7 ds (omega arith) ten,
       )
 
-  again-writable : writable (dayIn ds) (tickIn ds) ≡ true
+  pub again-writable : writable (dayIn ds) (tickIn ds) ≡ true
   unfolding writable tickAt
   again-writable =
       let q = in-range _ _ _ _ r in
