@@ -1,0 +1,4 @@
+pub mod Numbers
+pub mod RoundTrip
+pub mod Runs
+pub mod Reached

@@ -38,6 +38,11 @@ framesFrom (suc most) o es =
 unfoldable pub frames : List ℕ → List Found
 frames es = framesFrom (length es) 0 es
 
+-- frames, found so many elements later
+abbrev pub laterBy : ℕ → List Found → List Found
+laterBy n [] = []
+laterBy n (f ∷ fs) = record { first = n + f .first; read = f .read } ∷ laterBy n fs
+
 -- RUNS OF CALLS: rows, handed over one after the other
 
 -- the record afterwards
@@ -60,6 +65,22 @@ abbrev pub foundAll : ℕ → List (List ℕ) → Stream → List Found
 foundAll o [] s = []
 foundAll o (row ∷ rows) s =
     foundBy (o + takeRow s row .taken) (takeRow s row .finished) ++ foundAll (o + takeRow s row .taken) rows (takeRow s row .stream)
+
+-- A STREAM IN PARTS: each part is handed over again from behind what was taken of it, until nothing of it is left; with at most as many calls as the part has elements
+
+unfoldable pub handed : ℕ → Stream → List ℕ → List (List ℕ)
+handed zero s part = []
+handed (suc most) s [] = []
+handed (suc most) s (e ∷ es) = (e ∷ es) ∷ handed most (takeRow s (e ∷ es) .stream) (drop (takeRow s (e ∷ es) .taken) (e ∷ es))
+
+unfoldable pub inParts : List (List ℕ) → Stream → List (List ℕ)
+inParts [] s = []
+inParts (part ∷ parts) s = handed (length part) s part ++ inParts parts (afterAll (handed (length part) s part) s)
+
+-- the parts together
+abbrev pub joined : List (List ℕ) → List ℕ
+joined [] = []
+joined (part ∷ parts) = part ++ joined parts
 
 -- THE CALLS THAT LEAVE A RECORD, FROM A FRESH ONE
 

@@ -60,7 +60,7 @@ drop-none es n e = ap (λ (k : ℕ). below 1 (drop k es)) e
 abbrev pub begun : List ℕ → ℕ → Stream
 begun xs h = record { elements = xs; held = h; marked = false }
 
-next-held : (xs : List ℕ) (h e : ℕ) → (h ≡ 0 → ⊥) → next (begun xs h) e ≡ begun (set xs h e) (h + 1)
+pub next-held : (xs : List ℕ) (h e : ℕ) → (h ≡ 0 → ⊥) → next (begun xs h) e ≡ begun (set xs h e) (h + 1)
 unfolding next
 next-held xs h e n = simp (ne-eqb h 0 n)
 
@@ -141,21 +141,21 @@ held-whole (suc k) (e ∷ es) xs h l z q m =
 
 -- A SEARCH
 
-next-search : (m : Bool) (e : ℕ) → (m && eqb e 2) ≡ false → next (searching m) e ≡ searching (eqb e 2)
+pub next-search : (m : Bool) (e : ℕ) → (m && eqb e 2) ≡ false → next (searching m) e ≡ searching (eqb e 2)
 unfolding next
 next-search m e h = simp h
 
-next-second : (m : Bool) (e : ℕ) → (m && eqb e 2) ≡ true → next (searching m) e ≡ begun (set (replicate 100 0) 0 2) 1
+pub next-second : (m : Bool) (e : ℕ) → (m && eqb e 2) ≡ true → next (searching m) e ≡ begun (set (replicate 100 0) 0 2) 1
 unfolding next
 next-second m e h =
     ap (λ (t : Bool). pick (not t) (searching (eqb e 2)) (holding (searching m) e)) h
     ∙ ap (λ (x : ℕ). begun (set (replicate 100 0) 0 x) 1) (eqb-true e 2 (and-right m (eqb e 2) h))
 
-step-search : (m : Bool) (e : ℕ) (es : List ℕ) → (m && eqb e 2) ≡ false → oneByOne (searching m) (e ∷ es) ≡ behind 1 (oneByOne (searching (eqb e 2)) es)
+pub step-search : (m : Bool) (e : ℕ) (es : List ℕ) → (m && eqb e 2) ≡ false → oneByOne (searching m) (e ∷ es) ≡ behind 1 (oneByOne (searching (eqb e 2)) es)
 unfolding oneByOne
 step-search m e es h = ap (λ (s : Stream). pick (eqb (s .held) 100) (frameEnds s e) (behind 1 (oneByOne s es))) (next-search m e h)
 
-step-second : (m : Bool) (e : ℕ) (es : List ℕ) → (m && eqb e 2) ≡ true → oneByOne (searching m) (e ∷ es) ≡ behind 1 (oneByOne (begun (set (replicate 100 0) 0 2) 1) es)
+pub step-second : (m : Bool) (e : ℕ) (es : List ℕ) → (m && eqb e 2) ≡ true → oneByOne (searching m) (e ∷ es) ≡ behind 1 (oneByOne (begun (set (replicate 100 0) 0 2) 1) es)
 unfolding oneByOne
 step-second m e es h = ap (λ (s : Stream). pick (eqb (s .held) 100) (frameEnds s e) (behind 1 (oneByOne s es))) (next-second m e h)
 

@@ -40,6 +40,11 @@ all-at (suc n) test h j l =
     (λ q. let e : j ≡ n = omega arith in ap test e ∙ and-right (allTo n test) (test n) h)
     (lt-or-le j n)
 
+pub all-of : (n : ℕ) (test : ℕ → Bool) → ((j : ℕ) → j < n → test j ≡ true) → allTo n test ≡ true
+unfolding allTo
+all-of zero test h = refl
+all-of (suc n) test h = simp (all-of n test (λ j l. h j (omega arith)), h n (omega arith))
+
 -- FIELDS
 
 abbrev fieldNumbered : ℕ → Field
