@@ -1,28 +1,24 @@
 -- The numbers of reading a frame and of taking a row: each is given exactly if its line of the call's table holds and no line above it does, and 0 exactly if none holds. Beside a
 -- refusal stand zeros, and the record as it was. Writing a frame takes a card, and so it stands in the list of all calls, in crates/laws. Assumes nothing.
-use Prim.Native.Nat.{ℕ, _≤_, _<_}
+use Prim.Native.Nat.{ℕ}
 use mathlib.Core.Path.{_≡_, refl, sym, _∙_, ap}
-use mathlib.Core.Bool.{Bool, true, false, not}
+use mathlib.Core.Bool.{Bool, true, false}
 use mathlib.Core.List.{List, [], _∷_, _++_}
 use mathlib.Core.Logic.{_↔_}
-use lib.Dec.{ltb, eqb}
-use lib.ListN.{length, getD, take}
-use lib.Seq.{getD-take, length-take-le}
+use lib.Dec.{eqb}
 use native.Mathlib.Omega.{arith}
-use borrow.Author.Tests.{ne-eqb, le-ltb, not-true}
+use borrow.Author.Tests.{ne-eqb}
 use Rattle.wire.specs.Digits.{pick}
 use Rattle.wire.specs.Numbers.{Line, _if_, given, quiet, absent}
 use Rattle.wire.specs.Words.{dayIn, tickIn, timeRead}
 use Rattle.wire.specs.declared.words.TimeRead.{TimeRead}
-use Rattle.wire.proofs.digits.Laws.{picked, zero-or, clash}
+use Rattle.wire.proofs.digits.Laws.{picked, zero-or}
 use Rattle.wire.proofs.numbers.Laws.{given-exactly, given-zero}
 use Rattle.irig.specs.declared.stream.Stream.{Stream}
 use Rattle.irig.specs.declared.stream.Finished.the-variants as Finished
 use Rattle.irig.specs.declared.stream.RowTaken.{RowTaken}
-use Rattle.irig.specs.Table.{Field, at, allTo}
-use Rattle.irig.specs.Reading.{fits, allFit, clear, sparesClear, share, fieldIn, digitsIn, readLines, readRefusal, readFrame}
+use Rattle.irig.specs.Reading.{digitsIn, readLines, readRefusal, readFrame}
 use Rattle.irig.specs.Streams.{lawful, next, frameEnds, behind, rowTaken, oneByOne, takeLines, takeRow}
-use Rattle.irig.proofs.table.Laws.{sum-same, all-same}
 use Rattle.irig.proofs.stream.Laws.{take-18, take-lawful}
 
 -- READING A FRAME
@@ -51,47 +47,6 @@ module _ (row : List ℕ) where
   pub read-beside : (readFrame row .number ≡ 0 → ⊥) → readFrame row ≡ timeRead (readRefusal row) 0 0
   unfolding readFrame
   read-beside h = simp (ne-eqb (readRefusal row) 0 (λ e. h (read-number ∙ e)))
-
--- nothing behind place 99 is looked at
-
-module _ (a b : List ℕ) (l : 100 ≤ length a) (m : 100 ≤ length b) (e : (j : ℕ) → j < 100 → getD a j 0 ≡ getD b j 0) where
-  same-fit : allFit a ≡ allFit b
-  unfolding allFit
-  same-fit = all-same 100 (λ (j : ℕ). fits (at j) (getD a j 0)) (λ (j : ℕ). fits (at j) (getD b j 0)) (λ j k. ap (fits (at j)) (e j k))
-
-  same-clear : sparesClear a ≡ sparesClear b
-  unfolding sparesClear
-  same-clear = all-same 100 (λ (j : ℕ). clear (at j) (getD a j 0)) (λ (j : ℕ). clear (at j) (getD b j 0)) (λ j k. ap (clear (at j)) (e j k))
-
-  same-field : (f : Field) → fieldIn a f ≡ fieldIn b f
-  unfolding fieldIn
-  same-field f = sum-same 100 (λ (j : ℕ). share f (at j) (getD a j 0)) (λ (j : ℕ). share f (at j) (getD b j 0)) (λ j k. ap (share f (at j)) (e j k))
-
-  same-digits : digitsIn a ≡ digitsIn b
-  unfolding digitsIn
-  same-digits =
-      cc (
-        same-field Field.dayHundreds,
-        same-field Field.dayTens,
-        same-field Field.dayUnits,
-        same-field Field.hourTens,
-        same-field Field.hourUnits,
-        same-field Field.minuteTens,
-        same-field Field.minuteUnits,
-        same-field Field.secondTens,
-        same-field Field.secondUnits,
-      )
-
-  same-refusal : readRefusal a ≡ readRefusal b
-  unfolding readRefusal
-  same-refusal = simp (le-ltb (length a) 100 l, le-ltb (length b) 100 m, same-fit, same-clear, same-digits, same-field Field.binarySeconds)
-
-  pub read-same : readFrame a ≡ readFrame b
-  unfolding readFrame
-  read-same = cc (same-refusal, same-digits)
-
-pub only-hundred : (row : List ℕ) → 100 ≤ length row → readFrame (take 100 row) ≡ readFrame row
-only-hundred row l = read-same (take 100 row) row (rw (length-take-le 100 row l) (omega arith)) l (λ j k. getD-take 100 row j 0 k)
 
 -- TAKING A ROW
 

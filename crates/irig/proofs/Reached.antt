@@ -18,37 +18,18 @@ use Rattle.irig.specs.declared.stream.Finished.the-variants as Finished
 use Rattle.irig.specs.declared.stream.RowTaken.{RowTaken}
 use Rattle.irig.specs.Streams.{searching, freshStream, lawful, next, rowTaken, behind, oneByOne, takeRow}
 use Rattle.irig.specs.Finding.{frames, afterAll, takenAll, foundAll, handed, inParts, joined, Left, way}
-use Rattle.irig.proofs.stream.Laws.{begun, next-held, next-search, next-second, step-search, step-second, held-short, take-lawful, lawful-searching}
+use Rattle.irig.proofs.stream.Laws.{begun, next-held, next-search, next-second, step-search, step-second, held-short, take-lawful, Begun, lawful-begun, lawful-searching}
 use Rattle.irig.proofs.Runs.{step, afterEach, run-after, run-finds, takes-some}
 
 -- WHAT A LAWFUL RECORD IS
 
--- a frame that has begun
-pub record Begun (xs : List ℕ) (h : ℕ) : Type 0 where
-  pub some : h ≡ 0 → ⊥
-  pub few : h < 100
-  pub first : getD xs 0 0 ≡ 2
-  pub behind : below 1 (drop h xs) ≡ true
-
 begun-lawful : (xs : List ℕ) (h : ℕ) → Begun xs h → lawful (begun xs h) ≡ true
 unfolding lawful
-begun-lawful xs h b = simp (ne-eqb h 0 (b .some), lt-ltb h 100 (b .few), eq-eqb (getD xs 0 0) 2 (b .first), b .behind)
+begun-lawful xs h b = simp (ne-eqb h 0 (b .some), lt-ltb h 100 (b .few), eq-eqb (getD xs 0 0) 2 (b .first), b .zeros)
 
 searching-lawful : (m : Bool) → lawful (searching m) ≡ true
 unfolding lawful
 searching-lawful m = zeros-below 100
-
-lawful-begun : (s : Stream) → lawful s ≡ true → (s .held ≡ 0 → ⊥) → (s ≡ begun (s .elements) (s .held)) × Begun (s .elements) (s .held)
-unfolding lawful
-lawful-begun s h z =
-    let p : (ltb (s .held) 100 && (not (s .marked) && (eqb (getD (s .elements) 0 0) 2 && below 1 (drop (s .held) (s .elements))))) ≡ true
-    = sym (ap (λ (t : Bool). pick t (below 1 (s .elements)) (ltb (s .held) 100 && (not (s .marked) && (eqb (getD (s .elements) 0 0) 2 && below 1 (drop (s .held) (s .elements)))))) (ne-eqb (s .held) 0 z)) ∙ h in
-    let q = and-both _ _ p in
-    let r = and-both _ _ (q .1) in
-    let t = and-both _ _ (r .1) in (
-      ap (λ (m : Bool). record { elements = s .elements; held = s .held; marked = m }) (not-true (s .marked) (r .0)),
-      record { some = z; few = ltb-true (s .held) 100 (q .0); first = eqb-true (getD (s .elements) 0 0) 2 (t .0); behind = t .1 },
-    )
 
 -- EVERY ELEMENT LEAVES A LAWFUL RECORD LAWFUL
 
@@ -67,7 +48,7 @@ begun-more xs h e b l =
       some = λ q. omega arith;
       few = l;
       first = getD-set-other xs h 0 e 0 (λ q. z (sym q)) ∙ b .first;
-      behind = ap (below 1) (drop-set-lt (h + 1) xs h e (omega arith) ∙ sym (drop-drop 1 h xs)) ∙ below-drop 1 1 (drop h xs) (b .behind);
+      zeros = ap (below 1) (drop-set-lt (h + 1) xs h e (omega arith) ∙ sym (drop-drop 1 h xs)) ∙ below-drop 1 1 (drop h xs) (b .zeros);
     }
 
 below-hundred : (h : ℕ) → h < 100 → (h + 1 ≡ 100 → ⊥) → h + 1 < 100
@@ -87,7 +68,7 @@ held-sound xs h e l b =
 
 first-begun : Begun (set (replicate 100 0) 0 2) 1
 unfolding below
-first-begun = record { some = λ q. omega arith; few = omega arith; first = refl; behind = zeros-below 99 }
+first-begun = record { some = λ q. omega arith; few = omega arith; first = refl; zeros = zeros-below 99 }
 
 search-sound : (m : Bool) (e : ℕ) → Sound (step (searching m) e)
 search-sound m e = by (m && eqb e 2) refl
@@ -102,7 +83,7 @@ step-sound s e k = by (eqb (s .held) 0) refl
     by : (t : Bool) → eqb (s .held) 0 ≡ t → Sound (step s e)
     by true h = rw (lawful-searching s [] (k .is-lawful) (eqb-true (s .held) 0 h) (k .places)) (search-sound (s .marked) e)
     by false h =
-        let b = lawful-begun s (k .is-lawful) (eqb-false (s .held) 0 h) in
+        let b = lawful-begun s [] (k .is-lawful) (eqb-false (s .held) 0 h) in
         rw (b .0) (held-sound (s .elements) (s .held) e (k .places) (b .1))
 
 each-sound : (es : List ℕ) (s : Stream) → Sound s → Sound (afterEach s es)
@@ -141,7 +122,7 @@ module _ (x : ℕ) (xs : List ℕ) (h : ℕ) (l : length (x ∷ xs) ≡ 100) (b 
 
   -- zeros stand behind them
   tail-zeros : drop h xs ≡ replicate (99 - h) 0
-  tail-zeros = zeros (drop h xs) (b .behind) ∙ ap (λ (n : ℕ). replicate n 0) (length-drop h xs ∙ (let q : length xs - h ≡ 99 - h = omega arith in q))
+  tail-zeros = zeros (drop h xs) (b .zeros) ∙ ap (λ (n : ℕ). replicate n 0) (length-drop h xs ∙ (let q : length xs - h ≡ 99 - h = omega arith in q))
 
   count-is : 1 + length ys ≡ suc h
   count-is = let f = few in omega arith
@@ -176,7 +157,7 @@ way-leaves s k = by (eqb (s .held) 0) refl
     by : (t : Bool) → eqb (s .held) 0 ≡ t → afterAll (pick t (pick (s .marked) ((2 ∷ []) ∷ []) []) ((2 ∷ take (s .held) (s .elements)) ∷ [])) freshStream ≡ s
     by true h = searching-way (s .marked) ∙ sym (lawful-searching s [] (k .is-lawful) (eqb-true (s .held) 0 h) (k .places))
     by false h =
-        let b = lawful-begun s (k .is-lawful) (eqb-false (s .held) 0 h) in
+        let b = lawful-begun s [] (k .is-lawful) (eqb-false (s .held) 0 h) in
         begun-way (s .elements) (s .held) (k .places) (b .1) ∙ sym (b .0)
 
 -- a record, with a hundred places as every one handed in has by its type, is lawful exactly if some calls leave it

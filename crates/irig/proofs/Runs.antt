@@ -20,11 +20,10 @@ use Rattle.irig.specs.declared.stream.Finished.the-variants as Finished
 use Rattle.irig.specs.declared.stream.RowTaken.{RowTaken}
 use Rattle.irig.specs.declared.search.Searched.{Searched}
 use Rattle.irig.specs.Reading.{readFrame}
-use Rattle.irig.specs.Streams.{searching, freshStream, lawful, next, rowTaken, frameEnds, behind, oneByOne, takeRow, searched}
+use Rattle.irig.specs.Streams.{searching, freshStream, lawful, next, rowTaken, frameEnds, behind, oneByOne, takeRow, firstHeld, searched}
 use Rattle.irig.specs.Finding.{Found, beforeSecond, framesFrom, frames, laterBy, afterAll, takenAll, foundBy, foundAll}
 use Rattle.irig.proofs.search.Laws.{searched-more, searched-second, searched-none, searched-within}
-use Rattle.irig.proofs.stream.Laws.{begun, take-18, take-lawful, held-short, held-whole, search-finds, search-ends, next-search}
-use Rattle.irig.proofs.Numbers.{only-hundred}
+use Rattle.irig.proofs.stream.Laws.{take-18, take-lawful, held-short, rest-is, ends-whole, search-finds, search-ends, next-search}
 
 -- ELEMENTS ONE BY ONE
 
@@ -200,27 +199,6 @@ all-taken : (o : ℕ) (s : Stream) (es : List ℕ) (d : Stream) (n : ℕ) → on
 all-taken o s es d n e l =
     after-call o s es (rowTaken d 0 n Finished.Nothing) e ∙ ap (foundEach (o + n) d) (ap (λ (k : ℕ). drop k es) l ∙ drop-length es)
 
--- the hundred that are held when a frame ends
-hundred-held : (es : List ℕ) → paste (set (replicate 100 0) 0 2) 1 es 99 ≡ 2 ∷ take 99 es
-hundred-held es = append-nil (2 ∷ take 99 es)
-
-module _ (es : List ℕ) (l : 99 ≤ length es) where
-  same-read : readFrame (2 ∷ take 99 es) ≡ readFrame (2 ∷ es)
-  same-read = only-hundred (2 ∷ es) (omega arith)
-
-  last-is : getD (2 ∷ take 99 es) 99 0 ≡ getD es 98 0
-  last-is = getD-take 99 es 98 0 (omega arith)
-
-  rest-is : drop 98 es ≡ getD es 98 0 ∷ drop 99 es
-  rest-is = drop-cons es 98 0 (omega arith)
-
-  -- a frame that has begun ends, and the search goes on from its last element
-  ends-whole : oneByOne (begun (set (replicate 100 0) 0 2) 1) es ≡ rowTaken (searching (eqb (getD es 98 0) 2)) 0 99 (Finished.Frame (readFrame (2 ∷ es)))
-  ends-whole =
-      held-whole 98 es (set (replicate 100 0) 0 2) 1 refl (λ q. omega arith) refl l
-      ∙ ap (λ (ys : List ℕ). rowTaken (searching (eqb (getD ys 99 0) 2)) 0 99 (Finished.Frame (readFrame ys))) (hundred-held es)
-      ∙ ap₂ (λ (x : ℕ) (r : TimeRead). rowTaken (searching (eqb x 2)) 0 99 (Finished.Frame r)) last-is same-read
-
 -- THE FRAMES THAT ARE FOUND BEHIND AN ELEMENT
 
 module _ (n : ℕ) (rec : (o a : ℕ) (es : List ℕ) → length es < n → foundEach (o + 1) (searching (eqb a 2)) es ≡ framesFrom n o (a ∷ es)) (o a : ℕ) (es : List ℕ) (l : length es < suc n) where
@@ -249,7 +227,7 @@ module _ (n : ℕ) (rec : (o a : ℕ) (es : List ℕ) → length es < n → foun
     left : length rest ≡ length es - k
     left = length-drop k es
 
-    begins : oneByOne (searching (eqb a 2)) es ≡ behind k (oneByOne (begun (set (replicate 100 0) 0 2) 1) rest)
+    begins : oneByOne (searching (eqb a 2)) es ≡ behind k (oneByOne (firstHeld) rest)
     begins = search-finds es (eqb a 2) f
 
     too-short : length rest < 99 → foundEach (o + 1) (searching (eqb a 2)) es ≡ framesFrom (suc n) o (a ∷ es)

@@ -1,1 +1,2 @@
+pub mod Hundred
 pub mod Laws

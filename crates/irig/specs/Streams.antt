@@ -69,6 +69,10 @@ takeRow s row = pick (eqb (given (takeLines s)) 0) (oneByOne s row) (rowTaken s 
 
 -- WITHIN THE CRATE
 
+-- element 0 of a frame is held
+abbrev pub firstHeld : Stream
+firstHeld = record { elements = set (replicate 100 0) 0 2; held = 1; marked = false }
+
 -- the search in a row: how many elements it takes, whether it ends with the second of two markers, and, if not, whether the last was a marker
 unfoldable pub searched : Bool → List ℕ → Searched
 searched marked [] = record { taken = 0; marked = marked; found = false }

@@ -6,11 +6,11 @@ use wire::numbers;
 use wire::words::TimeRead;
 ghost use mathlib.Core.Path.{_≡_};
 ghost use mathlib.Core.Bool.{false};
-ghost use Prim.Native.Nat.{_+_, _≤_, _<_};
-ghost use lib.ListN.{length, drop};
+ghost use Prim.Native.Nat.{_+_, _-_, _≤_, _<_};
+ghost use lib.ListN.{length, getD, drop};
 ghost use lib.Seq.{paste};
 ghost use Rattle.wire.specs.Digits.{below};
-ghost use Rattle.irig.specs.Streams.{searching, freshStream, lawful, oneByOne, behind, takeRow};
+ghost use Rattle.irig.specs.Streams.{searching, freshStream, lawful, oneByOne, behind, takeRow, firstHeld};
 
 // What has come of a frame, with zeros behind it; and, while none has begun, whether the element before was a marker.
 pub struct Stream {
@@ -122,6 +122,25 @@ fn hold(begun: [u8; 100], held: usize, row: &[u8], from: usize) -> RowTaken
     }
 }
 
+// Takes what a row has of the frame whose element 0 stands right before a place. A frame that is whole in the row is read where it stands; what comes of a shorter one is held.
+fn begin(row: &[u8], from: usize) -> RowTaken
+    requires { ⌜ (0 < from) × (from ≤ length (now row)) × (getD (now row) (from - 1) 0 ≡ 2) ⌝ }
+    ensures { λ r. ⌜ r ≡ behind from (oneByOne firstHeld (drop from (now (row .entry)))) ⌝ }
+{
+    if row.len() - from < 99 {
+        let mut begun: [u8; 100] = [0; 100];
+        begun[0] = 2;
+        return hold(begun, 1, row, from);
+    }
+    let time = read_frame(&row[from - 1..from + 99]);
+    RowTaken {
+        stream: search_on(row[from + 98] == 2),
+        number: numbers::DONE,
+        taken: from + 99,
+        finished: Finished::Frame(time),
+    }
+}
+
 // Takes the elements of a row up to and including the last of a frame, or all of them: the record afterwards, how many were taken, and the frame, if one was finished,
 // with its number and time. 18 for a record that no calls leave, and then nothing is taken.
 pub fn take_row(stream: Stream, row: &[u8]) -> RowTaken
@@ -135,14 +154,13 @@ pub fn take_row(stream: Stream, row: &[u8]) -> RowTaken
             finished: Finished::Nothing,
         };
     }
-    let mut elements = stream.elements;
     if stream.held != 0 {
+        let elements = stream.elements;
         return hold(elements, stream.held, row, 0);
     }
     let s = search(stream.marked, row);
     if s.found {
-        elements[0] = 2;
-        return hold(elements, 1, row, s.taken);
+        return begin(row, s.taken);
     }
     RowTaken {
         stream: search_on(s.marked),

@@ -87,6 +87,7 @@ touched k c d (Effect.waits n row e) = rw (strobe-later (passed (c .clock) n (le
 touched k c d Effect.resets = refl
 touched k c d (Effect.saves row) = refl
 touched k c d (Effect.loads bytes e) = refl
+touched k c d (Effect.writes-frame row) = refl
 
 excepted : {n : ℕ} (k : Call) (c d : Card) → Excepted k c d n → Same (touches k c) c d
 unfolding touches writeTouches

@@ -145,6 +145,7 @@ module _ (c : Card) (h : lawful c ≡ true) where
   kept k d Effect.resets = reset-lawful (c .clock .time) (c .settings) (time-lawful c h) (parts c h .settings)
   kept k d (Effect.saves row) = h
   kept k d (Effect.loads bytes e) = keeps-settings c h _ (loaded-lawful bytes e)
+  kept k d (Effect.writes-frame row) = h
 
   excepted : {n : ℕ} (k : Call) (d : Card) → Excepted k c d n → lawful d ≡ true
   excepted k d (Excepted.packet v l b z) = keeps-done _ (keeps-queue c h emptyQueue empty-lawful) false

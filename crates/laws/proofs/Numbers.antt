@@ -32,6 +32,7 @@ use Rattle.card.specs.Waiting.{waitRefusal, waited}
 use Rattle.card.specs.Reset
 use Rattle.card.specs.Saved
 use Rattle.card.specs.Saved.{saveRefusal}
+use Rattle.irig.specs.Writing
 use Rattle.card.proofs.blocks.Laws.{block-number}
 use Rattle.laws.specs.Calls.{Call, number}
 use Rattle.laws.specs.Refusals.{lines}
@@ -96,7 +97,7 @@ line-table c false e = simp e
 -- ---- all calls
 
 pub number-given : (k : Call) (c : Card) → number k c ≡ given (lines k c)
-unfolding number Setting.setTime Setting.setStrobe Setting.setPeriodic Registers.edge Reset.reset Saved.load saveRefusal granted readRefusal waitRefusal
+unfolding number Setting.setTime Setting.setStrobe Setting.setPeriodic Registers.edge Reset.reset Saved.load saveRefusal Writing.writeRefusal granted readRefusal waitRefusal
 number-given (Call.setTime year day hour minute second) c = refl
 number-given (Call.read reg) c = read-gives c reg
 number-given (Call.write reg v) c = write-number c reg v
@@ -109,6 +110,7 @@ number-given (Call.wait n row) c = wait-gives c n (length row)
 number-given Call.reset c = refl
 number-given (Call.save row) c = refl
 number-given (Call.load bytes) c = refl
+number-given (Call.frame row) c = refl
 
 -- no line has the number 0
 numbered : (k : Call) (c : Card) → absent 0 (lines k c) ≡ true
@@ -124,6 +126,7 @@ numbered (Call.wait n row) c = refl
 numbered Call.reset c = refl
 numbered (Call.save row) c = refl
 numbered (Call.load bytes) c = refl
+numbered (Call.frame row) c = refl
 
 -- 0 is given exactly if no line holds
 pub done-exactly-if : (k : Call) (c : Card) → number k c ≡ 0 ↔ quiet (lines k c) ≡ true

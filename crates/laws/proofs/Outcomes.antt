@@ -48,6 +48,7 @@ use Rattle.card.specs.Reset.{resetCard}
 use Rattle.card.specs.Saved
 use Rattle.parts.specs.Saved.{meaningful, settingsIn}
 use Rattle.card.specs.Saved.{saveRefusal}
+use Rattle.irig.specs.Writing
 use Rattle.card.proofs.blocks.Laws.{filled, block-18, block-is}
 use Rattle.card.proofs.registers.Laws.{ack-packet, queue-within}
 use Rattle.laws.specs.Calls.{Call, after, number}
@@ -80,6 +81,7 @@ pub data Effect (c : Card) : Call → Card → Type 0 where
   resets : Effect c Call.reset (resetCard (c .clock .time) (c .settings))
   saves : (row : List ℕ) → Effect c (Call.save row) c
   loads : (bytes : List ℕ) → eqb (length bytes) 5 && meaningful (unpacked 2 8 bytes) ≡ true → Effect c (Call.load bytes) (withSettings c (settingsIn (unpacked 2 8 bytes)))
+  writes-frame : (row : List ℕ) → Effect c (Call.frame row) c
 
 -- how a call ends: the card afterwards and the number
 pub data Outcome (k : Call) (c : Card) : Card → ℕ → Type 0 where
@@ -259,11 +261,12 @@ module _ (c : Card) (row : List ℕ) where
       (λ e. left-over l (ltb-true (free (c .queue)) (length row) e))
       (λ e. all-found l (ltb-false (free (c .queue)) (length row) e))))
 
--- ---- saving, the line, waiting
+-- ---- saving, writing a frame, the line, waiting
 
-save-by : (c : Card) (row : List ℕ) (known : Bool) → lawful c ≡ known → Outcome (Call.save row) c c (given (18 if not known ∷ 14 if ltb (length row) 5 ∷ []))
-save-by c row false l = unlawful l
-save-by c row true l = by (λ (n : ℕ). Outcome (Call.save row) c c n) (ltb (length row) 5) (λ e. refused l refl refl) (λ e. accepted l (saves row))
+-- a call that asks for room in a row, and leaves the card as it is
+room-by : (k : Call) (c : Card) (room places : ℕ) → Effect c k c → (known : Bool) → lawful c ≡ known → Outcome k c c (given (18 if not known ∷ 14 if ltb room places ∷ []))
+room-by k c room places o false l = unlawful l
+room-by k c room places o true l = by (λ (n : ℕ). Outcome k c c n) (ltb room places) (λ e. refused l refl refl) (λ e. accepted l o)
 
 line-by : (c : Card) (known up : Bool) → lawful c ≡ known
     → Outcome Call.line c c (pick (known && up) (interruptLine 0 true (c .interrupts .level) (c .interrupts .vector)) (interruptLine (given (18 if not known ∷ [])) false 0 0) .number)
@@ -286,7 +289,7 @@ wait-by c n row true l false e = refused l e (wait-18 c n (length row) l)
 -- ---- all calls
 
 pub outcome : (k : Call) (c : Card) → Outcome k c (after k c) (number k c)
-unfolding after number Setting.setTime Setting.setStrobe Setting.setPeriodic readRegister writeRegister Registers.edge Registers.line lineRefusal Waiting.wait Reset.reset Saved.load saveRefusal
+unfolding after number Setting.setTime Setting.setStrobe Setting.setPeriodic readRegister writeRegister Registers.edge Registers.line lineRefusal Waiting.wait Reset.reset Saved.load saveRefusal Writing.writeRefusal
 outcome (Call.setTime year day hour minute second) c =
     one-line _ c _ 11 (dateFits year day hour minute second) refl refl (sets-time year day hour minute second) (lawful c) refl
 outcome (Call.read reg) c = read-by c reg (lawful c) refl
@@ -304,5 +307,6 @@ outcome (Call.wait n row) c =
     (λ e. wait-by c n row (lawful c) refl true e)
     (λ e. wait-by c n row (lawful c) refl false e)
 outcome Call.reset c = only-18 _ c _ (λ l. resets) (lawful c) refl
-outcome (Call.save row) c = save-by c row (lawful c) refl
+outcome (Call.save row) c = room-by _ c (length row) 5 (saves row) (lawful c) refl
 outcome (Call.load bytes) c = one-line _ c _ 19 (eqb (length bytes) 5 && meaningful (unpacked 2 8 bytes)) refl refl (loads bytes) (lawful c) refl
+outcome (Call.frame row) c = room-by _ c (length row) 100 (writes-frame row) (lawful c) refl

@@ -24,6 +24,7 @@ use Rattle.card.specs.Registers.{readRefusal, readRegister}
 use Rattle.card.specs.Waiting
 use Rattle.card.specs.Waiting.{waitRefusal, rowWaited}
 use Rattle.card.specs.Saved.{saveRefusal, rowSaved}
+use Rattle.irig.specs.Writing
 use Rattle.card.proofs.blocks.Laws.{block-18, block-is, block-accepts}
 use Rattle.card.proofs.registers.Laws.{ack-packet}
 use Rattle.laws.specs.Calls.{Call, after, number, values, lent, left}
@@ -102,10 +103,9 @@ block-beside row c true l h =
     ap (λ (r : BlockAnswer). r .taken) (block-is c row l) ∙ min-eq-left (le-of-lt s) ∙ simp l
 block-beside row c false l h = ap (λ (r : BlockAnswer). r .taken) (sym (block-18 c row (lawful c) refl l)) ∙ simp l
 
-save-beside : (row : List ℕ) (c : Card) (t : Bool) → eqb (saveRefusal c (length row)) 0 ≡ t → (saveRefusal c (length row) ≡ 0 → ⊥) → rowSaved c row ≡ row
-unfolding rowSaved
-save-beside row c true e h = absurd (h (eqb-true _ 0 e))
-save-beside row c false e h = simp e
+row-beside : (n : ℕ) (put row : List ℕ) (t : Bool) → eqb n 0 ≡ t → (n ≡ 0 → ⊥) → pick t put row ≡ row
+row-beside n put row true e h = absurd (h (eqb-true n 0 e))
+row-beside n put row false e h = refl
 
 -- every value beside a refusal
 pub values-beside : (k : Call) (c : Card) → (number k c ≡ 0 → ⊥) → values k c ≡ beside k c
@@ -122,10 +122,11 @@ values-beside (Call.wait n row) c h = wait-beside n row c (eqb (waitRefusal c n 
 values-beside Call.reset c h = refl
 values-beside (Call.save row) c h = refl
 values-beside (Call.load bytes) c h = refl
+values-beside (Call.frame row) c h = refl
 
 -- every lent row beside a refusal
 pub row-stays : (k : Call) (c : Card) → (number k c ≡ 0 → ⊥) → left k c ≡ lent k
-unfolding number left lent
+unfolding number left lent rowSaved Writing.rowWritten
 row-stays (Call.setTime year day hour minute second) c h = refl
 row-stays (Call.read reg) c h = refl
 row-stays (Call.write reg v) c h = refl
@@ -136,5 +137,6 @@ row-stays (Call.setStrobe s) c h = refl
 row-stays (Call.setPeriodic d) c h = refl
 row-stays (Call.wait n row) c h = wait-beside n row c (eqb (waitRefusal c n (length row)) 0) refl h .1
 row-stays Call.reset c h = refl
-row-stays (Call.save row) c h = save-beside row c (eqb (saveRefusal c (length row)) 0) refl h
+row-stays (Call.save row) c h = row-beside (saveRefusal c (length row)) _ row _ refl h
 row-stays (Call.load bytes) c h = refl
+row-stays (Call.frame row) c h = row-beside (Writing.writeRefusal c (length row)) _ row _ refl h

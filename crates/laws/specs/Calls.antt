@@ -1,5 +1,5 @@
--- All calls that take a card, in the page's order (the wait in place is the wait, by its contract; `is_lawful` tells and changes nothing): the card afterwards, the number and the values given back, the lent row afterwards, and, in this one place,
--- the fields that each may touch.
+-- All calls that take a card, in the page's order, and writing a frame behind them (the wait in place is the wait, by its contract; `is_lawful` tells and changes
+-- nothing): the card afterwards, the number and the values given back, the lent row afterwards, and, in this one place, the fields that each may touch.
 use Prim.Native.Nat.{ℕ, _^_}
 use mathlib.Core.Path.{_≡_}
 use mathlib.Core.Bool.{Bool, false, _||_}
@@ -25,6 +25,7 @@ use Rattle.card.specs.Setting
 use Rattle.card.specs.Waiting
 use Rattle.card.specs.Reset
 use Rattle.card.specs.Saved
+use Rattle.irig.specs.Writing
 
 -- a call with its arguments, and the row that it is lent
 pub data Call : Type 0 where
@@ -40,8 +41,9 @@ pub data Call : Type 0 where
   reset : Call
   save : (row : List ℕ) → Call
   load : (bytes : List ℕ) → Call
+  frame : (row : List ℕ) → Call
 
--- the card afterwards; the line and saving take the card and do not give it back
+-- the card afterwards; the line, saving and writing a frame take the card and do not give it back
 unfoldable pub after : Call → Card → Card
 after (Call.setTime year day hour minute second) c = Setting.setTime c year day hour minute second .card
 after (Call.read reg) c = Registers.readRegister c reg .card
@@ -55,6 +57,7 @@ after (Call.wait n row) c = Waiting.wait c n (length row) .card
 after Call.reset c = Reset.reset c .card
 after (Call.save row) c = c
 after (Call.load bytes) c = Saved.load c bytes .card
+after (Call.frame row) c = c
 
 -- the number given back
 unfoldable pub number : Call → Card → ℕ
@@ -70,6 +73,7 @@ number (Call.wait n row) c = Waiting.wait c n (length row) .waited .number
 number Call.reset c = Reset.reset c .number
 number (Call.save row) c = Saved.saveRefusal c (length row)
 number (Call.load bytes) c = Saved.load c bytes .number
+number (Call.frame row) c = Writing.writeRefusal c (length row)
 
 -- the values given back beside card and number
 abbrev lineValues : InterruptLine → List ℕ
@@ -91,6 +95,7 @@ values (Call.wait n row) c = waitValues (Waiting.wait c n (length row) .waited)
 values Call.reset c = []
 values (Call.save row) c = []
 values (Call.load bytes) c = []
+values (Call.frame row) c = []
 
 -- the row that a call is lent, and what it leaves in it
 unfoldable pub lent : Call → List ℕ
@@ -106,6 +111,7 @@ lent (Call.wait n row) = row
 lent Call.reset = []
 lent (Call.save row) = row
 lent (Call.load bytes) = bytes
+lent (Call.frame row) = row
 
 unfoldable pub left : Call → Card → List ℕ
 left (Call.setTime year day hour minute second) c = []
@@ -120,6 +126,7 @@ left (Call.wait n row) c = Waiting.rowWaited c n row
 left Call.reset c = []
 left (Call.save row) c = Saved.rowSaved c row
 left (Call.load bytes) c = bytes
+left (Call.frame row) c = Writing.rowWritten c row
 
 -- FIELDS
 
@@ -230,6 +237,7 @@ touches Call.reset c =
     Field.clockSource ∷ Field.offset ∷ Field.timeLatch ∷ Field.eventLatch ∷ Field.control ∷ Field.mask ∷ Field.pending ∷ Field.level ∷ Field.vector ∷ Field.done ∷ Field.queue ∷ Field.strobe ∷ Field.periodic ∷ []
 touches (Call.save row) c = []
 touches (Call.load bytes) c = Field.mode ∷ Field.format ∷ Field.modulation ∷ Field.clockSource ∷ Field.generator ∷ Field.offset ∷ []
+touches (Call.frame row) c = []
 
 -- THE LATCHES
 

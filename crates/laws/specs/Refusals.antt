@@ -19,6 +19,7 @@ use Rattle.card.specs.Lawful.{lawful}
 use Rattle.card.specs.Packets.{ackLines, ackRefusal}
 use Rattle.card.specs.Registers.{readLines, writeLines}
 use Rattle.card.specs.Saved.{saveLines}
+use Rattle.irig.specs.Writing
 use Rattle.laws.specs.Calls.{Call}
 
 -- the lines of a call, in the page's order: its number is given exactly if that line holds and no line above it does, and 0 if none holds
@@ -35,6 +36,7 @@ lines (Call.wait n row) c = 18 if not (lawful c) ∷ waitLines (c .clock) n (len
 lines Call.reset c = 18 if not (lawful c) ∷ []
 lines (Call.save row) c = saveLines c (length row)
 lines (Call.load bytes) c = 18 if not (lawful c) ∷ savedLines bytes
+lines (Call.frame row) c = Writing.writeLines c (length row)
 
 -- a refused call that changes the card: the call, the card before and after, and the number
 pub data Excepted : Call → Card → Card → ℕ → Type 0 where
@@ -59,3 +61,4 @@ beside (Call.wait n row) c = 0 ∷ 0 ∷ []
 beside Call.reset c = []
 beside (Call.save row) c = []
 beside (Call.load bytes) c = []
+beside (Call.frame row) c = []

@@ -1,5 +1,5 @@
 -- The search, element by element. Assumes nothing.
-use Prim.Native.Nat.{ℕ, suc, _+_, _≤_, _<_}
+use Prim.Native.Nat.{ℕ, suc, _+_, _-_, _≤_, _<_}
 use mathlib.Core.Path.{_≡_, refl, sym, _∙_, ap}
 use mathlib.Core.Bool.{Bool, true, false, _&&_}
 use mathlib.Core.List.{List, [], _∷_}
@@ -7,7 +7,9 @@ use native.Mathlib.Omega.{arith}
 use lib.Dec.{eqb}
 use lib.ListN.{length, getD, drop}
 use lib.Seq.{drop-cons, drop-length}
+use borrow.Author.Tests.{eqb-true}
 use Rattle.wire.specs.Digits.{pick}
+use Rattle.wire.proofs.digits.Laws.{and-right, clash}
 use Rattle.irig.specs.declared.search.Searched.{Searched}
 use Rattle.irig.specs.Streams.{searched}
 
@@ -84,3 +86,19 @@ within-step e es m false q r = rw (searched-more m e es q) (omega arith)
 pub searched-within : (es : List ℕ) (m : Bool) → searched m es .taken ≤ length es
 searched-within [] m = rw (searched-none m) (omega arith)
 searched-within (e ∷ es) m = within-step e es m (m && eqb e 2) refl (searched-within es (eqb e 2))
+
+-- and where it finds, it ends with a marker
+
+second-step : (e : ℕ) (es : List ℕ) (m : Bool) → searched m (e ∷ es) .found ≡ true → (t : Bool) → (m && eqb e 2) ≡ t
+    → (searched (eqb e 2) es .found ≡ true → (0 < searched (eqb e 2) es .taken) × (getD es (searched (eqb e 2) es .taken - 1) 0 ≡ 2))
+    → (0 < searched m (e ∷ es) .taken) × (getD (e ∷ es) (searched m (e ∷ es) .taken - 1) 0 ≡ 2)
+second-step e es m f true q r = rw (searched-second m e es q) (omega arith, eqb-true e 2 (and-right m (eqb e 2) q))
+second-step e es m f false q r =
+    let n : ℕ = searched (eqb e 2) es .taken in
+    let d = r (sym (ap (λ (t : Searched). t .found) (searched-more m e es q)) ∙ f) in
+    let p = d .0 in
+    rw (searched-more m e es q) (omega arith, ap (λ (k : ℕ). getD (e ∷ es) k 0) (let z : n + 1 - 1 ≡ suc (n - 1) = omega arith in z) ∙ d .1)
+
+pub second-is : (es : List ℕ) (m : Bool) → searched m es .found ≡ true → (0 < searched m es .taken) × (getD es (searched m es .taken - 1) 0 ≡ 2)
+second-is [] m f = clash (sym f ∙ ap (λ (t : Searched). t .found) (searched-none m))
+second-is (e ∷ es) m f = second-step e es m f (m && eqb e 2) refl (second-is es (eqb e 2))

@@ -3,12 +3,12 @@
 use Prim.Native.Nat.{ℕ, zero, suc, _+_, _*_, _-_, _≤_, _<_}
 use mathlib.Core.Path.{_≡_, refl, sym, _∙_, ap, ap₂}
 use mathlib.Core.Bool.{Bool, true, false, _&&_, not}
-use mathlib.Core.List.{List, [], _∷_, _++_, append-assoc}
+use mathlib.Core.List.{List, [], _∷_, _++_, append-assoc, append-nil}
 use native.Mathlib.Nat.{add-zero}
 use native.Mathlib.Omega.{arith}
 use lib.Dec.{ltb, eqb}
 use lib.ListN.{length, getD, take, drop, set, replicate, length-set, length-drop, drop-of-length-le}
-use lib.Seq.{drop-cons, drop-length, take-suc-set, drop-set-lt, getD-set-same, paste, paste-zero, length-paste}
+use lib.Seq.{drop-cons, drop-length, take-suc-set, drop-set-lt, getD-set-same, getD-take, getD-drop, paste, paste-zero, length-paste}
 use borrow.Author.Tests.{eqb-true, ltb-true, eq-eqb, ne-eqb, not-true}
 use Rattle.wire.specs.Digits.{pick, below}
 use Rattle.wire.proofs.digits.Laws.{and-assoc, and-true, zeros, and-left, and-right, and-both, clash}
@@ -19,8 +19,9 @@ use Rattle.irig.specs.declared.stream.Finished.the-variants as Finished
 use Rattle.irig.specs.declared.stream.RowTaken.{RowTaken}
 use Rattle.irig.specs.declared.search.Searched.{Searched}
 use Rattle.irig.specs.Reading.{readFrame}
-use Rattle.irig.specs.Streams.{searching, lawful, holding, next, rowTaken, frameEnds, behind, oneByOne, takeRow, searched}
-use Rattle.irig.proofs.search.Laws.{searched-more, searched-second, searched-none, searched-within}
+use Rattle.irig.specs.Streams.{searching, lawful, holding, next, rowTaken, frameEnds, behind, oneByOne, takeRow, firstHeld, searched}
+use Rattle.irig.proofs.search.Laws.{searched-more, searched-second, searched-none, searched-within, second-is}
+use Rattle.irig.proofs.reading.Hundred.{only-hundred}
 use Rattle.irig.proofs.reading.Laws.{zero-sum}
 
 -- ZEROS
@@ -139,13 +140,34 @@ held-whole (suc k) (e ∷ es) xs h l z q m =
     ∙ ap (behind 1) (held-whole k es (set xs h e) (h + 1) (length-set xs h e ∙ l) (λ r. omega arith) (omega arith) (omega arith))
     ∙ whole-more xs h e es k (rw l (let r : h < 100 = omega arith in r))
 
+-- the hundred that are held when a frame ends
+hundred-held : (es : List ℕ) → paste (set (replicate 100 0) 0 2) 1 es 99 ≡ 2 ∷ take 99 es
+hundred-held es = append-nil (2 ∷ take 99 es)
+
+module _ (es : List ℕ) (l : 99 ≤ length es) where
+  same-read : readFrame (2 ∷ take 99 es) ≡ readFrame (2 ∷ es)
+  same-read = only-hundred (2 ∷ es) (omega arith)
+
+  last-is : getD (2 ∷ take 99 es) 99 0 ≡ getD es 98 0
+  last-is = getD-take 99 es 98 0 (omega arith)
+
+  pub rest-is : drop 98 es ≡ getD es 98 0 ∷ drop 99 es
+  rest-is = drop-cons es 98 0 (omega arith)
+
+  -- a frame that has begun ends, and the search goes on from its last element
+  pub ends-whole : oneByOne (firstHeld) es ≡ rowTaken (searching (eqb (getD es 98 0) 2)) 0 99 (Finished.Frame (readFrame (2 ∷ es)))
+  ends-whole =
+      held-whole 98 es (set (replicate 100 0) 0 2) 1 refl (λ q. omega arith) refl l
+      ∙ ap (λ (ys : List ℕ). rowTaken (searching (eqb (getD ys 99 0) 2)) 0 99 (Finished.Frame (readFrame ys))) (hundred-held es)
+      ∙ ap₂ (λ (x : ℕ) (r : TimeRead). rowTaken (searching (eqb x 2)) 0 99 (Finished.Frame r)) last-is same-read
+
 -- A SEARCH
 
 pub next-search : (m : Bool) (e : ℕ) → (m && eqb e 2) ≡ false → next (searching m) e ≡ searching (eqb e 2)
 unfolding next
 next-search m e h = simp h
 
-pub next-second : (m : Bool) (e : ℕ) → (m && eqb e 2) ≡ true → next (searching m) e ≡ begun (set (replicate 100 0) 0 2) 1
+pub next-second : (m : Bool) (e : ℕ) → (m && eqb e 2) ≡ true → next (searching m) e ≡ firstHeld
 unfolding next
 next-second m e h =
     ap (λ (t : Bool). pick (not t) (searching (eqb e 2)) (holding (searching m) e)) h
@@ -155,7 +177,7 @@ pub step-search : (m : Bool) (e : ℕ) (es : List ℕ) → (m && eqb e 2) ≡ fa
 unfolding oneByOne
 step-search m e es h = ap (λ (s : Stream). pick (eqb (s .held) 100) (frameEnds s e) (behind 1 (oneByOne s es))) (next-search m e h)
 
-pub step-second : (m : Bool) (e : ℕ) (es : List ℕ) → (m && eqb e 2) ≡ true → oneByOne (searching m) (e ∷ es) ≡ behind 1 (oneByOne (begun (set (replicate 100 0) 0 2) 1) es)
+pub step-second : (m : Bool) (e : ℕ) (es : List ℕ) → (m && eqb e 2) ≡ true → oneByOne (searching m) (e ∷ es) ≡ behind 1 (oneByOne (firstHeld) es)
 unfolding oneByOne
 step-second m e es h = ap (λ (s : Stream). pick (eqb (s .held) 100) (frameEnds s e) (behind 1 (oneByOne s es))) (next-second m e h)
 
@@ -164,25 +186,22 @@ behind-behind n t = ap (λ (k : ℕ). rowTaken (t .stream) (t .number) k (t .fin
 
 -- it ends with the second of two markers
 
-abbrev first : Stream
-first = begun (set (replicate 100 0) 0 2) 1
-
 finds-step : (e : ℕ) (es : List ℕ) (m : Bool) → searched m (e ∷ es) .found ≡ true → (t : Bool) → (m && eqb e 2) ≡ t
-    → (searched (eqb e 2) es .found ≡ true → oneByOne (searching (eqb e 2)) es ≡ behind (searched (eqb e 2) es .taken) (oneByOne first (drop (searched (eqb e 2) es .taken) es)))
-    → oneByOne (searching m) (e ∷ es) ≡ behind (searched m (e ∷ es) .taken) (oneByOne first (drop (searched m (e ∷ es) .taken) (e ∷ es)))
+    → (searched (eqb e 2) es .found ≡ true → oneByOne (searching (eqb e 2)) es ≡ behind (searched (eqb e 2) es .taken) (oneByOne firstHeld (drop (searched (eqb e 2) es .taken) es)))
+    → oneByOne (searching m) (e ∷ es) ≡ behind (searched m (e ∷ es) .taken) (oneByOne firstHeld (drop (searched m (e ∷ es) .taken) (e ∷ es)))
 finds-step e es m h true q r =
     step-second m e es q
-    ∙ ap (λ (n : ℕ). behind n (oneByOne first (drop n (e ∷ es)))) (sym (ap (λ (t : Searched). t .taken) (searched-second m e es q)))
+    ∙ ap (λ (n : ℕ). behind n (oneByOne firstHeld (drop n (e ∷ es)))) (sym (ap (λ (t : Searched). t .taken) (searched-second m e es q)))
 finds-step e es m h false q r =
     let n : ℕ = searched (eqb e 2) es .taken in
     let o : suc n ≡ n + 1 = omega arith in
     step-search m e es q
     ∙ ap (behind 1) (r (sym (ap (λ (t : Searched). t .found) (searched-more m e es q)) ∙ h))
-    ∙ behind-behind n (oneByOne first (drop n es))
-    ∙ ap (λ (k : ℕ). behind (n + 1) (oneByOne first (drop k (e ∷ es)))) o
-    ∙ ap (λ (k : ℕ). behind k (oneByOne first (drop k (e ∷ es)))) (sym (ap (λ (t : Searched). t .taken) (searched-more m e es q)))
+    ∙ behind-behind n (oneByOne firstHeld (drop n es))
+    ∙ ap (λ (k : ℕ). behind (n + 1) (oneByOne firstHeld (drop k (e ∷ es)))) o
+    ∙ ap (λ (k : ℕ). behind k (oneByOne firstHeld (drop k (e ∷ es)))) (sym (ap (λ (t : Searched). t .taken) (searched-more m e es q)))
 
-pub search-finds : (es : List ℕ) (m : Bool) → searched m es .found ≡ true → oneByOne (searching m) es ≡ behind (searched m es .taken) (oneByOne first (drop (searched m es .taken) es))
+pub search-finds : (es : List ℕ) (m : Bool) → searched m es .found ≡ true → oneByOne (searching m) es ≡ behind (searched m es .taken) (oneByOne firstHeld (drop (searched m es .taken) es))
 search-finds [] m h = clash (sym h ∙ ap (λ (t : Searched). t .found) (searched-none m))
 search-finds (e ∷ es) m h = finds-step e es m h (m && eqb e 2) refl (search-finds es (eqb e 2))
 
@@ -207,6 +226,13 @@ search-ends (e ∷ es) m h = ends-step e es m h (m && eqb e 2) refl (search-ends
 
 -- THE CALL
 
+-- what a lawful record holds of a frame that has begun
+pub record Begun (xs : List ℕ) (h : ℕ) : Type 0 where
+  pub some : h ≡ 0 → ⊥
+  pub few : h < 100
+  pub first : getD xs 0 0 ≡ 2
+  pub zeros : below 1 (drop h xs) ≡ true
+
 module _ (s : Stream) (row : List ℕ) where
   pub take-18 : lawful s ≡ false → rowTaken s 18 0 Finished.Nothing ≡ takeRow s row
   unfolding takeRow
@@ -216,20 +242,17 @@ module _ (s : Stream) (row : List ℕ) where
   unfolding takeRow
   take-lawful h = simp h
 
-  pub record Held : Type 0 where
-    pub below : s .held < 100
-    pub is : s ≡ begun (s .elements) (s .held)
-
-  pub lawful-held : lawful s ≡ true → (s .held ≡ 0 → ⊥) → Held
+  pub lawful-begun : lawful s ≡ true → (s .held ≡ 0 → ⊥) → (s ≡ begun (s .elements) (s .held)) × Begun (s .elements) (s .held)
   unfolding lawful
-  lawful-held h z =
+  lawful-begun h z =
       let p : (ltb (s .held) 100 && (not (s .marked) && (eqb (getD (s .elements) 0 0) 2 && below 1 (drop (s .held) (s .elements))))) ≡ true
       = sym (ap (λ (t : Bool). pick t (below 1 (s .elements)) (ltb (s .held) 100 && (not (s .marked) && (eqb (getD (s .elements) 0 0) 2 && below 1 (drop (s .held) (s .elements)))))) (ne-eqb (s .held) 0 z)) ∙ h in
       let q = and-both _ _ p in
-      record {
-        below = ltb-true (s .held) 100 (q .0);
-        is = ap (λ (m : Bool). record { elements = s .elements; held = s .held; marked = m }) (not-true (s .marked) (and-left _ _ (q .1)));
-      }
+      let r = and-both _ _ (q .1) in
+      let t = and-both _ _ (r .1) in (
+        ap (λ (m : Bool). record { elements = s .elements; held = s .held; marked = m }) (not-true (s .marked) (r .0)),
+        record { some = z; few = ltb-true (s .held) 100 (q .0); first = eqb-true (getD (s .elements) 0 0) 2 (t .0); zeros = t .1 },
+      )
 
   pub lawful-searching : lawful s ≡ true → s .held ≡ 0 → length (s .elements) ≡ 100 → s ≡ searching (s .marked)
   unfolding lawful
@@ -271,11 +294,28 @@ module _ (xs row : List ℕ) (h from : ℕ) (l : length xs ≡ 100) (z : 0 < h) 
       ∙ ap (λ (j : ℕ). behind from (wholeAnswer (paste xs h (drop from row) j) j)) k
       ∙ ap (behind from) (sym (held-whole (99 - h) (drop from row) xs h l (λ q. omega arith) (omega arith) (omega arith)))
 
+-- a frame that is whole in the row
+pub begin-whole : (row : List ℕ) (from : ℕ) → 0 < from → getD row (from - 1) 0 ≡ 2 → from ≤ length row → 99 ≤ length row - from
+    → (time : TimeRead) → time ≡ readFrame (take (from + 99 - (from - 1)) (drop (from - 1) row)) → (s : Stream) → s ≡ searching (eqb (getD row (from + 98) 0) 2)
+    → rowTaken s 0 (from + 99) (Finished.Frame time) ≡ behind from (oneByOne firstHeld (drop from row))
+begin-whole row from z e w l time t s u =
+    let n : length (drop from row) ≡ length row - from = length-drop from row in
+    let m : length (drop (from - 1) row) ≡ length row - (from - 1) = length-drop (from - 1) row in
+    let a : drop (from - 1) row ≡ 2 ∷ drop from row
+    = drop-cons row (from - 1) 0 (omega arith) ∙ ap₂ (λ (x k : ℕ). x ∷ drop k row) e (let q : suc (from - 1) ≡ from = omega arith in q) in
+    ap₂ (λ (r : Stream) (x : TimeRead). rowTaken r 0 (from + 99) (Finished.Frame x))
+    (u ∙ ap (λ (x : ℕ). searching (eqb x 2)) (sym (getD-drop from row 98 0)))
+    (t
+    ∙ ap (λ (k : ℕ). readFrame (take k (drop (from - 1) row))) (let q : from + 99 - (from - 1) ≡ 100 = omega arith in q)
+    ∙ only-hundred (drop (from - 1) row) (omega arith)
+    ∙ ap readFrame a)
+    ∙ ap (behind from) (sym (ends-whole (drop from row) (omega arith)))
+
 module _ (s : Stream) (row : List ℕ) (h : lawful s ≡ true) where
   pub take-held : (s .held ≡ 0 → ⊥) → (t : RowTaken) → t ≡ behind 0 (oneByOne (begun (s .elements) (s .held)) (drop 0 row)) → t ≡ takeRow s row
   take-held z t e =
       e
-      ∙ ap (λ (r : Stream). behind 0 (oneByOne r row)) (sym (lawful-held s row h z .is))
+      ∙ ap (λ (r : Stream). behind 0 (oneByOne r row)) (sym (lawful-begun s row h z .0))
       ∙ ap (λ (k : ℕ). rowTaken (oneByOne s row .stream) (oneByOne s row .number) k (oneByOne s row .finished)) (let q : 0 + oneByOne s row .taken ≡ oneByOne s row .taken = omega arith in q)
       ∙ take-lawful s row h
 
@@ -283,11 +323,10 @@ module _ (s : Stream) (row : List ℕ) (h : lawful s ≡ true) where
     is : s ≡ searching (s .marked)
     is = lawful-searching s row h z l
 
-    pub take-second : f .found ≡ true → (t : RowTaken) → t ≡ behind (f .taken) (oneByOne (begun (set (s .elements) 0 2) 1) (drop (f .taken) row)) → t ≡ takeRow s row
+    pub take-second : f .found ≡ true → (t : RowTaken) → t ≡ behind (f .taken) (oneByOne firstHeld (drop (f .taken) row)) → t ≡ takeRow s row
     take-second g t q =
         q
-        ∙ ap (λ (r : Stream). behind (f .taken) (oneByOne (begun (set (r .elements) 0 2) 1) (drop (f .taken) row))) is
-        ∙ ap (λ (r : Searched). behind (r .taken) (oneByOne first (drop (r .taken) row))) e
+        ∙ ap (λ (r : Searched). behind (r .taken) (oneByOne firstHeld (drop (r .taken) row))) e
         ∙ sym (search-finds row (s .marked) (sym (ap (λ (r : Searched). r .found) e) ∙ g))
         ∙ ap (λ (r : Stream). oneByOne r row) (sym is)
         ∙ take-lawful s row h
@@ -300,6 +339,8 @@ module _ (s : Stream) (row : List ℕ) (h : lawful s ≡ true) where
         ∙ ap (λ (u : Stream). oneByOne u row) (sym is)
         ∙ take-lawful s row h
 
-    -- the search stays within the row
-    pub found-within : f .taken ≤ length row
-    found-within = rw e (searched-within row (s .marked))
+    -- the search stays within the row, and ends behind a marker
+    pub found-second : f .found ≡ true → (0 < f .taken) × (f .taken ≤ length row) × (getD row (f .taken - 1) 0 ≡ 2)
+    found-second g =
+        let d = second-is row (s .marked) (sym (ap (λ (r : Searched). r .found) e) ∙ g) in
+        rw e (d .0, searched-within row (s .marked), d .1)

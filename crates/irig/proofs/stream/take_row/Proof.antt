@@ -6,7 +6,7 @@ use native.Mathlib.Omega.{arith}
 use lib.ListN.{length}
 use borrow.Author.Needs.{needs, length-unmapped}
 use borrow.Author.Tests.{not-true, not-false}
-use Rattle.irig.proofs.stream.Laws.{take-18, lawful-held, take-held, take-second, take-none, found-within, positive}
+use Rattle.irig.proofs.stream.Laws.{take-18, lawful-begun, take-held, take-second, take-none, found-second, positive}
 use Rattle.irig.proofs.stream.take_row.Statement.{statement}
 use Rattle.irig.proofs.stream.take_row.Tie as tie
 
@@ -20,33 +20,32 @@ hold-requires : tie.Need-hold-requires
 hold-requires c κs =
     let i = c .before .before .before in
     let a = i .before .before .before .args in
-    let h = lawful-held (a .stream) (a .row .now) (sym (i .before .is-lawful .ensures) ∙ not-false _ (i .if1 .left)) (c .if2 .taken) in
-    (positive (a .stream .held) (c .if2 .taken), h .below, omega arith)
+    let b = lawful-begun (a .stream) (a .row .now) (sym (i .before .is-lawful .ensures) ∙ not-false _ (i .if1 .left)) (c .before .if2 .taken) .1 in
+    (positive (a .stream .held) (c .before .if2 .taken), b .few, omega arith)
 
 returns-2 : tie.Need-returns-2
 returns-2 c =
     let i = c .before .before .before .before in
-    take-held _ _ (sym (i .before .is-lawful .ensures) ∙ not-false _ (i .if1 .left)) (c .before .if2 .taken) _ (c .hold .ensures)
+    take-held _ _ (sym (i .before .is-lawful .ensures) ∙ not-false _ (i .if1 .left)) (c .before .before .if2 .taken) _ (c .hold .ensures)
 
 search-requires : tie.Need-search-requires
 search-requires c κs = search needs
 
-array-write-elements : tie.Need-array-write-elements
-array-write-elements c = search needs
-
-hold-requires-2 : tie.Need-hold-requires-2
-hold-requires-2 c κs =
+begin-requires : tie.Need-begin-requires
+begin-requires c κs =
     let z = c .before .before in
-    let i = z .before .before .before in
-    let l : length (i .before .before .before .args .stream .elements) ≡ 100 = search needs in
-    (omega arith, omega arith, found-within _ _ (sym (i .before .is-lawful .ensures) ∙ not-false _ (i .if1 .left)) (z .if2 .left) l _ (c .before .search .ensures))
+    let i = z .before .before in
+    let p = i .before .before .before in
+    let l : length (p .args .stream .elements) ≡ 100 = length-unmapped ℕ (p .args .stream .elements) 100 (p .good .0 .1 .1 .0 .1 .0 .1) in
+    found-second _ _ (sym (i .before .is-lawful .ensures) ∙ not-false _ (i .if1 .left)) (z .if2 .left) l _ (c .before .search .ensures) (c .if3 .taken)
 
 returns-3 : tie.Need-returns-3
 returns-3 c =
     let z = c .before .before .before in
-    let i = z .before .before .before in
-    let l : length (i .before .before .before .args .stream .elements) ≡ 100 = length-unmapped ℕ (i .before .before .before .args .stream .elements) 100 (i .before .before .before .good .0 .1 .1 .0 .1 .0 .1) in
-    take-second _ _ (sym (i .before .is-lawful .ensures) ∙ not-false _ (i .if1 .left)) (z .if2 .left) l _ (c .before .before .search .ensures) (c .before .if3 .taken) _ (c .hold2 .ensures)
+    let i = z .before .before in
+    let p = i .before .before .before in
+    let l : length (p .args .stream .elements) ≡ 100 = length-unmapped ℕ (p .args .stream .elements) 100 (p .good .0 .1 .1 .0 .1 .0 .1) in
+    take-second _ _ (sym (i .before .is-lawful .ensures) ∙ not-false _ (i .if1 .left)) (z .if2 .left) l _ (c .before .before .search .ensures) (c .before .if3 .taken) _ (c .begin .ensures)
 
 search-on-requires : tie.Need-search-on-requires
 search-on-requires c κs = search needs
@@ -54,8 +53,9 @@ search-on-requires c κs = search needs
 returns-4 : tie.Need-returns-4
 returns-4 c =
     let z = c .before .before .before in
-    let i = z .before .before .before in
-    let l : length (i .before .before .before .args .stream .elements) ≡ 100 = search needs in
+    let i = z .before .before in
+    let p = i .before .before .before in
+    let l : length (p .args .stream .elements) ≡ 100 = length-unmapped ℕ (p .args .stream .elements) 100 (p .good .0 .1 .1 .0 .1 .0 .1) in
     take-none _ _ (sym (i .before .is-lawful .ensures) ∙ not-false _ (i .if1 .left)) (z .if2 .left) l _ (c .before .before .search .ensures) (c .before .if3 .left) _ (c .search-on .ensures)
 
 pub take-row-spec : {M : Type 1} → statement M
@@ -67,8 +67,7 @@ take-row-spec =
     hold-requires
     returns-2
     search-requires
-    array-write-elements
-    hold-requires-2
+    begin-requires
     returns-3
     search-on-requires
     returns-4)
