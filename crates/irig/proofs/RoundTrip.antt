@@ -242,7 +242,11 @@ module _ (row : List ℕ) (n : readFrame row .number ≡ 0) where
   pub written-read : frameOf (readFrame row .day) (readFrame row .tick .ticks) ≡ take 100 row
   written-read = ap (λ (r : TimeRead). frameOf (r .day) (r .tick .ticks)) read-as ∙ frame-is
 
-  -- which is within the ranges of time words, and has no fraction
+  -- it has a hundred places
+  pub read-long : 100 ≤ length row
+  read-long = was .long
+
+  -- what it reads as is within the ranges of time words, and has no fraction
   pub read-writable : writable (readFrame row .day) (readFrame row .tick .ticks) ≡ true
   read-writable = ap (λ (r : TimeRead). writable (r .day) (r .tick .ticks)) read-as ∙ again-writable ds (twenty row) (was .decimals) (was .range)
 

@@ -44,7 +44,7 @@ never true h = absurd (h refl)
 never false h = refl
 
 -- a lawful card with another time is lawful if that is
-with-time : (c : Card) (t : Time) → lawful c ≡ true → InRange t → lawful (withClock c (withTime (c .clock) t)) ≡ true
+pub with-time : (c : Card) (t : Time) → lawful c ≡ true → InRange t → lawful (withClock c (withTime (c .clock) t)) ≡ true
 with-time c t l h =
     let k = clockLaws.parts (c .clock) (parts c l .clock) in
     keeps-clock c l (withTime (c .clock) t) (clockLaws.whole (withTime (c .clock) t) (record { time = time-lawful t h; strobe = k .strobe; periodic = k .periodic }))
