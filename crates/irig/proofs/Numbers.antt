@@ -18,7 +18,7 @@ use Rattle.irig.specs.declared.stream.Stream.{Stream}
 use Rattle.irig.specs.declared.stream.Finished.the-variants as Finished
 use Rattle.irig.specs.declared.stream.RowTaken.{RowTaken}
 use Rattle.irig.specs.Reading.{digitsIn, readLines, readRefusal, readFrame}
-use Rattle.irig.specs.Streams.{lawful, next, frameEnds, behind, rowTaken, oneByOne, takeLines, takeRow}
+use Rattle.irig.specs.Streams.{lawful, next, frameEnds, behind, rowTaken, oneByOne, takeRow}
 use Rattle.irig.proofs.stream.Laws.{take-18, take-lawful}
 
 -- READING A FRAME

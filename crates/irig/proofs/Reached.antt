@@ -2,21 +2,20 @@
 -- Assumes nothing.
 use Prim.Native.Nat.{ℕ, zero, suc, _+_, _-_, _≤_, _<_}
 use mathlib.Core.Path.{_≡_, refl, sym, _∙_, ap, ap₂}
-use mathlib.Core.Bool.{Bool, true, false, _&&_, not}
+use mathlib.Core.Bool.{Bool, true, false, _&&_}
 use mathlib.Core.List.{List, [], _∷_, _++_, append-assoc}
 use mathlib.Core.Logic.{_↔_, ⊎-elim}
 use native.Mathlib.Nat.{le-refl}
 use native.Mathlib.Omega.{arith}
-use lib.Dec.{ltb, eqb}
-use lib.ListN.{length, getD, take, drop, set, replicate, length-set, length-drop, length-replicate, take-append-drop}
+use lib.Dec.{eqb}
+use lib.ListN.{length, getD, take, drop, set, replicate, length-set, length-drop, take-append-drop}
 use lib.Seq.{drop-set-lt, drop-drop, getD-set-other, length-take-le, take-length, paste}
-use borrow.Author.Tests.{ltb-true, lt-ltb, eqb-true, eqb-false, eq-eqb, ne-eqb, not-true}
+use borrow.Author.Tests.{lt-ltb, eqb-true, eqb-false, eq-eqb, ne-eqb}
 use Rattle.wire.specs.Digits.{pick, below}
-use Rattle.wire.proofs.digits.Laws.{and-left, and-right, and-both, below-drop, zeros, zeros-below, lt-or-le}
+use Rattle.wire.proofs.digits.Laws.{below-drop, zeros, zeros-below, lt-or-le}
 use Rattle.irig.specs.declared.stream.Stream.{Stream}
-use Rattle.irig.specs.declared.stream.Finished.the-variants as Finished
 use Rattle.irig.specs.declared.stream.RowTaken.{RowTaken}
-use Rattle.irig.specs.Streams.{searching, freshStream, lawful, next, rowTaken, behind, oneByOne, takeRow}
+use Rattle.irig.specs.Streams.{searching, freshStream, lawful, behind, oneByOne, takeRow}
 use Rattle.irig.specs.Finding.{frames, afterAll, takenAll, foundAll, handed, inParts, joined, Left, way}
 use Rattle.irig.proofs.stream.Laws.{begun, next-held, next-search, next-second, step-search, step-second, held-short, take-lawful, Begun, lawful-begun, lawful-searching}
 use Rattle.irig.proofs.Runs.{step, afterEach, run-after, run-finds, takes-some}

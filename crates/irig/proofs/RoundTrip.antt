@@ -1,19 +1,18 @@
 -- Frames, there and back. A frame that was written for a time reads as its day and its tick without the fraction; a row that reads begins with the frame that is written for
 -- what it reads as. So nothing readable has a second spelling. By the laws of the table and of time words.
 -- Assumes nothing.
-use Prim.Native.Nat.{ℕ, suc, _+_, _*_, _/_, _%_, _^_, _≤_, _<_}
+use Prim.Native.Nat.{ℕ, _+_, _*_, _/_, _%_, _^_, _≤_, _<_}
 use mathlib.Core.Path.{_≡_, refl, sym, _∙_, ap, ap₂}
-use mathlib.Core.Bool.{Bool, true, false, _&&_, not}
+use mathlib.Core.Bool.{true, not}
 use mathlib.Core.List.{List, [], _∷_, _++_, map}
 use native.Mathlib.Nat.{mod-lt}
 use native.Mathlib.Omega.{arith}
 use lib.Dec.{ltb, eqb, lit<}
 use lib.ListN.{length, getD, take, drop, replicate, length-append, take-append-drop, List·getD-append}
-use lib.Seq.{ext-getD, getD-take, length-take-le, take-at, drop-at}
-use borrow.Author.Tests.{ltb-true, ltb-false, eqb-true, lt-ltb, le-ltb, eq-eqb, not-false}
+use lib.Seq.{ext-getD, getD-take, length-take-le, take-at}
+use borrow.Author.Tests.{ltb-false, eqb-true, lt-ltb, le-ltb, eq-eqb, not-false}
 use Rattle.wire.specs.Digits.{pick, digits}
-use Rattle.wire.specs.Numbers.{_if_, given, quiet}
-use Rattle.wire.specs.Time.{ticksOfDay, hourOf, minuteOf, secondOf, fractionOf}
+use Rattle.wire.specs.Time.{fractionOf}
 use Rattle.wire.specs.Words.{timeDigits, writable, decimal, dayIn, tickIn, timeRead}
 use Rattle.wire.specs.declared.words.TimeRead.{TimeRead}
 use Rattle.wire.proofs.numbers.Laws.{given-zero, quiet-first}
@@ -22,7 +21,7 @@ use Rattle.wire.proofs.words.Laws.{in-ranges, writable-day, writable-tick, time
 use Rattle.wire.proofs.words.RoundTrip.{digits-decimal, digits-in-range, day-back, tick-back, digits-again, again-writable}
 use Rattle.card.specs.declared.card.Card.{Card}
 use Rattle.card.specs.Lawful.{lawful}
-use Rattle.irig.specs.Table.{Field, Element, table, at, digitOf, allTo}
+use Rattle.irig.specs.Table.{Field, Element, table, at, digitOf}
 use Rattle.irig.specs.Writing.{secondsOf, fieldOf, elementOf, frameOf, writeRefusal, rowWritten}
 use Rattle.irig.specs.Reading.{fits, allFit, clear, sparesClear, fieldIn, digitsIn, digitsInRange, readLines, readRefusal, readFrame}
 use Rattle.irig.proofs.table.Laws.{all-at, all-of, at-place, hundred-of, field-of, fit-at, bit-back}

@@ -9,7 +9,7 @@ use native.Mathlib.Nat.{le-refl}
 use native.Mathlib.Omega.{arith}
 use lib.Dec.{ltb, eqb}
 use lib.ListN.{length, getD, take, drop, set, replicate, length-drop, take-append-drop}
-use lib.Seq.{length-take-le, getD-take, drop-length, drop-drop, drop-cons, paste}
+use lib.Seq.{length-take-le, drop-length, drop-drop}
 use borrow.Author.Tests.{lt-ltb, le-ltb, eqb-true}
 use Rattle.wire.specs.Digits.{pick}
 use Rattle.wire.specs.declared.words.TimeRead.{TimeRead}

@@ -1,5 +1,5 @@
 -- Writing a frame: a card's time, without its fraction, as a hundred elements at the front of a lent row.
-use Prim.Native.Nat.{ℕ, _*_, _/_, _%_, _^_, _<_}
+use Prim.Native.Nat.{ℕ, _/_, _%_, _^_, _<_}
 use mathlib.Core.Path.{_≡_}
 use mathlib.Core.Bool.{not}
 use mathlib.Core.List.{List, [], _∷_, _++_, map}
@@ -10,7 +10,7 @@ use Rattle.wire.specs.Numbers.{Line, _if_, given}
 use Rattle.wire.specs.Time.{hourOf, minuteOf, secondOf}
 use Rattle.card.specs.declared.card.Card.{Card}
 use Rattle.card.specs.Lawful.{lawful}
-use Rattle.irig.specs.Table.{Field, Element, table, digitOf, base, width, placeOf}
+use Rattle.irig.specs.Table.{Field, Element, table, digitOf, base, width}
 
 -- the seconds of the day that have passed on a tick of day
 unfoldable pub secondsOf : ℕ → ℕ

@@ -4,9 +4,7 @@ use Prim.Native.Nat.{ℕ, _≤_}
 use mathlib.Core.Path.{_≡_, refl, sym}
 use mathlib.Core.Bool.{true}
 use mathlib.Core.List.{List}
-use native.Mathlib.Omega.{arith}
 use lib.Dec.{lit≤}
-use lib.ListN.{length}
 use Rattle.wire.proofs.words.Laws.{writable-day, writable-tick}
 use Rattle.clock.specs.Time.{daysIn, instant}
 use Rattle.clock.specs.Clocks.{withTime}

@@ -2,23 +2,23 @@
 -- are the frame's digits as time words have them. By the laws of the table and of digits.
 -- Assumes nothing.
 use Prim.Native.Nat.{ℕ, zero, suc, _+_, _*_, _/_, _%_, _^_, _≤_, _<_}
-use mathlib.Core.Path.{_≡_, refl, sym, _∙_, ap, ap₂}
+use mathlib.Core.Path.{_≡_, refl, sym, _∙_, ap}
 use mathlib.Core.Bool.{Bool, true, false, _&&_, not}
 use mathlib.Core.List.{List, [], _∷_, map}
 use mathlib.Core.Logic.{⊎-elim}
 use native.Mathlib.Nat.{mul-comm, mul-assoc, mul-le-mul, mod-eq-of-lt}
 use native.Mathlib.Omega.{arith}
 use lib.Pow.{pow-add, pow-mono}
-use lib.Dec.{leb, ltb, eqb, lit<, lit≤}
-use lib.ListN.{length, getD, take, drop, replicate}
-use borrow.Author.Tests.{ltb-true, eqb-true, lt-ltb, eq-eqb, ne-eqb, le-ltb}
+use lib.Dec.{ltb, eqb, lit<, lit≤}
+use lib.ListN.{length, getD}
+use borrow.Author.Tests.{lt-ltb, eq-eqb, ne-eqb, le-ltb}
 use Rattle.wire.specs.Digits.{pick, num, below, packed, unpacked}
 use Rattle.wire.specs.Words.{decimal, dayIn, tickIn, timeRead, readWords, readDigits}
 use Rattle.wire.specs.declared.words.TimeRead.{TimeRead}
 use Rattle.wire.proofs.digits.Laws.{unpack-packed, and-true, lt-or-le, clash}
 use Rattle.wire.proofs.words.Laws.{read-by-digits, read-bad, read-outside, read-done, whole-second}
 use Rattle.irig.specs.declared.reading.Summed.{Summed}
-use Rattle.irig.specs.Table.{Field, Element, number, table, at, sumTo, allTo, base, width, placeOf}
+use Rattle.irig.specs.Table.{Field, Element, number, table, at, sumTo, allTo, base, placeOf}
 use Rattle.irig.specs.Writing.{secondsOf}
 use Rattle.irig.specs.Reading.{fits, allFit, clear, sparesClear, share, fieldIn, digitsIn, digitsInRange, readRefusal, readFrame, weighed, weighedTo, scanned, wordsIn}
 use Rattle.irig.proofs.table.Laws.{at-place, fit-at, fieldTo, field-whole, field-small, bit-low, together, bounds, together-small}

@@ -8,10 +8,10 @@ use native.Mathlib.Nat.{add-zero}
 use native.Mathlib.Omega.{arith}
 use lib.Dec.{ltb, eqb}
 use lib.ListN.{length, getD, take, drop, set, replicate, length-set, length-drop, drop-of-length-le}
-use lib.Seq.{drop-cons, drop-length, take-suc-set, drop-set-lt, getD-set-same, getD-take, getD-drop, paste, paste-zero, length-paste}
+use lib.Seq.{drop-cons, take-suc-set, drop-set-lt, getD-set-same, getD-take, getD-drop, paste, paste-zero, length-paste}
 use borrow.Author.Tests.{eqb-true, ltb-true, eq-eqb, ne-eqb, not-true}
 use Rattle.wire.specs.Digits.{pick, below}
-use Rattle.wire.proofs.digits.Laws.{and-assoc, and-true, zeros, and-left, and-right, and-both, clash}
+use Rattle.wire.proofs.digits.Laws.{and-assoc, and-true, zeros, and-right, and-both, clash}
 use Rattle.wire.specs.declared.words.TimeRead.{TimeRead}
 use Rattle.irig.specs.declared.stream.Stream.{Stream}
 use Rattle.irig.specs.declared.stream.Finished.{Finished}

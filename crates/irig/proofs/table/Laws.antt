@@ -10,7 +10,7 @@ use native.Mathlib.Nat.{le-refl, div-one, pow-suc, mul-comm, mul-assoc, mod-one,
 use native.Mathlib.Omega.{arith}
 use lib.Arith.{digits-div, digits-lt}
 use lib.Pow.{pow-add, mod-pow-add, field}
-use lib.Dec.{ltb, eqb, lit<, lit≤}
+use lib.Dec.{eqb, lit<, lit≤}
 use lib.ListN.{length, getD, length-map}
 use borrow.Author.Tests.{ltb-true, eqb-true, eq-eqb}
 use Rattle.wire.specs.Digits.{pick}

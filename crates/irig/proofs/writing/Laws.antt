@@ -3,17 +3,16 @@
 -- Assumes nothing.
 use Prim.Native.Nat.{ℕ, suc, _+_, _*_, _/_, _%_, _-_, _^_, _≤_, _<_}
 use mathlib.Core.Path.{_≡_, refl, sym, _∙_, ap, ap₂}
-use mathlib.Core.Bool.{Bool, true, false, not}
+use mathlib.Core.Bool.{true, false}
 use mathlib.Core.List.{List, [], _∷_, _++_, map}
 use native.Mathlib.Nat.{le-refl, div-one, div-eq-of-lt, zero-add}
 use native.Mathlib.Omega.{arith}
 use lib.Pow.{field, mod-mod-pow, shr-shr}
-use lib.Dec.{ltb, eqb, lit<}
 use lib.ListN.{length, getD, drop, set, length-set, length-map}
 use lib.Seq.{ext-getD, paste, paste-zero, paste-suc, take-all}
 use borrow.Author.Tests.{ne-eqb, lt-ltb, le-ltb}
 use Rattle.wire.specs.Words.{wordsOf, writable, wordsOrZero}
-use Rattle.wire.specs.Time.{ticksOfDay, hourOf, minuteOf, secondOf}
+use Rattle.wire.specs.Time.{hourOf, minuteOf, secondOf}
 use Rattle.wire.proofs.words.Laws.{in-ranges, writable-day, writable-tick, words-within, hundreds-word, days-and-hours-word, minutes-and-seconds-word}
 use Rattle.wire.proofs.time.Laws.{hour-below, minute-below, second-below}
 use Rattle.clock.proofs.time.Laws.{in-range, days-in-year}
