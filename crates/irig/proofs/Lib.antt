@@ -1,4 +1,5 @@
+pub mod Finding
 pub mod Numbers
-pub mod RoundTrip
-pub mod Runs
+pub mod Parts
 pub mod Reached
+pub mod RoundTrip

@@ -1,11 +1,10 @@
 -- 18 is reachability: a record is lawful exactly if some calls leave it. Every call leaves a lawful record lawful; and `way` of specs/Finding has the calls that leave each.
 -- Assumes nothing.
-use Prim.Native.Nat.{ℕ, zero, suc, _+_, _-_, _≤_, _<_}
+use Prim.Native.Nat.{ℕ, zero, suc, _+_, _-_, _<_}
 use mathlib.Core.Path.{_≡_, refl, sym, _∙_, ap, ap₂}
 use mathlib.Core.Bool.{Bool, true, false, _&&_}
-use mathlib.Core.List.{List, [], _∷_, _++_, append-assoc}
+use mathlib.Core.List.{List, [], _∷_, _++_}
 use mathlib.Core.Logic.{_↔_, ⊎-elim}
-use native.Mathlib.Nat.{le-refl}
 use native.Mathlib.Omega.{arith}
 use lib.Dec.{eqb}
 use lib.ListN.{length, getD, take, drop, set, replicate, length-set, length-drop, take-append-drop}
@@ -16,9 +15,9 @@ use Rattle.wire.proofs.digits.Laws.{below-drop, zeros, zeros-below, lt-or-le}
 use Rattle.irig.specs.declared.stream.Stream.{Stream}
 use Rattle.irig.specs.declared.stream.RowTaken.{RowTaken}
 use Rattle.irig.specs.Streams.{searching, freshStream, lawful, behind, oneByOne, takeRow}
-use Rattle.irig.specs.Finding.{frames, afterAll, takenAll, foundAll, handed, inParts, joined, Left, way}
+use Rattle.irig.specs.Finding.{afterAll, takenAll, handed, Left, way}
 use Rattle.irig.proofs.stream.Laws.{begun, next-held, next-search, next-second, step-search, step-second, held-short, take-lawful, Begun, lawful-begun, lawful-searching}
-use Rattle.irig.proofs.Runs.{step, afterEach, run-after, run-finds, takes-some}
+use Rattle.irig.proofs.Finding.{step, afterEach, run-after}
 
 -- WHAT A LAWFUL RECORD IS
 
@@ -169,36 +168,3 @@ lawful-exactly-if s l = (
 -- and every call leaves a lawful one lawful
 pub keeps : (s : Stream) (row : List ℕ) → lawful s ≡ true → length (s .elements) ≡ 100 → (lawful (takeRow s row .stream) ≡ true) × (length (takeRow s row .stream .elements) ≡ 100)
 keeps s row h l = let k = keeps-all (row ∷ []) s (record { is-lawful = h; places = l }) in (k .is-lawful, k .places)
-
--- A STREAM IN PARTS
-
-take-both : (rows rows′ : List (List ℕ)) (s : Stream) → takenAll (rows ++ rows′) s ≡ takenAll rows s ++ takenAll rows′ (afterAll rows s)
-take-both [] rows′ s = refl
-take-both (row ∷ rows) rows′ s =
-    ap (λ (l : List ℕ). take (takeRow s row .taken) row ++ l) (take-both rows rows′ (takeRow s row .stream))
-    ∙ sym (append-assoc (take (takeRow s row .taken) row) (takenAll rows (takeRow s row .stream)) (takenAll rows′ (afterAll rows (takeRow s row .stream))))
-
--- a part is taken whole
-handed-taken : (n : ℕ) (part : List ℕ) (s : Stream) → length part ≤ n → Sound s → takenAll (handed n s part) s ≡ part
-unfolding handed
-handed-taken zero [] s l k = refl
-handed-taken zero (e ∷ es) s l k = absurd (omega arith)
-handed-taken (suc n) [] s l k = refl
-handed-taken (suc n) (e ∷ es) s l k =
-    let t : ℕ = takeRow s (e ∷ es) .taken in
-    let q : length (drop t (e ∷ es)) ≡ suc (length es) - t = length-drop t (e ∷ es) in
-    let m = takes-some s e es (k .is-lawful) in
-    ap (λ (r : List ℕ). take t (e ∷ es) ++ r) (handed-taken n (drop t (e ∷ es)) (takeRow s (e ∷ es) .stream) (omega arith) (keeps-all ((e ∷ es) ∷ []) s k))
-    ∙ take-append-drop t (e ∷ es)
-
-parts-taken : (parts : List (List ℕ)) (s : Stream) → Sound s → takenAll (inParts parts s) s ≡ joined parts
-unfolding inParts
-parts-taken [] s k = refl
-parts-taken (part ∷ parts) s k =
-    let rows : List (List ℕ) = handed (length part) s part in
-    take-both rows (inParts parts (afterAll rows s)) s
-    ∙ ap₂ _++_ (handed-taken (length part) part s (le-refl (length part)) k) (parts-taken parts (afterAll rows s) (keeps-all rows s k))
-
--- a stream that is handed over in parts, cut anywhere, gives the frames of the whole: nothing is lost or found twice at a cut
-pub parts-find : (parts : List (List ℕ)) → foundAll 0 (inParts parts freshStream) freshStream ≡ frames (joined parts)
-parts-find parts = run-finds (inParts parts freshStream) ∙ ap frames (parts-taken parts freshStream fresh-sound)

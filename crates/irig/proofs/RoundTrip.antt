@@ -1,7 +1,7 @@
 -- Frames, there and back. A frame that was written for a time reads as its day and its tick without the fraction; a row that reads begins with the frame that is written for
 -- what it reads as. So nothing readable has a second spelling. By the laws of the table and of time words.
 -- Assumes nothing.
-use Prim.Native.Nat.{ℕ, _+_, _*_, _/_, _%_, _^_, _≤_, _<_}
+use Prim.Native.Nat.{ℕ, _/_, _%_, _^_, _≤_, _<_}
 use mathlib.Core.Path.{_≡_, refl, sym, _∙_, ap, ap₂}
 use mathlib.Core.Bool.{true, not}
 use mathlib.Core.List.{List, [], _∷_, _++_, map}
@@ -12,20 +12,21 @@ use lib.ListN.{length, getD, take, drop, replicate, length-append, take-append-d
 use lib.Seq.{ext-getD, getD-take, length-take-le, take-at}
 use borrow.Author.Tests.{ltb-false, eqb-true, lt-ltb, le-ltb, eq-eqb, not-false}
 use Rattle.wire.specs.Digits.{pick, digits}
-use Rattle.wire.specs.Time.{fractionOf}
+use Rattle.wire.specs.Time.{fractionOf, wholeSeconds, withoutFraction}
 use Rattle.wire.specs.Words.{timeDigits, writable, decimal, dayIn, tickIn, timeRead}
 use Rattle.wire.specs.declared.words.TimeRead.{TimeRead}
 use Rattle.wire.proofs.numbers.Laws.{given-zero, quiet-first}
 use Rattle.wire.proofs.time.Laws.{hour-whole, minute-whole, second-whole, fraction-whole}
-use Rattle.wire.proofs.words.Laws.{in-ranges, writable-day, writable-tick, time-digits, whole-second}
+use Rattle.wire.proofs.words.Laws.{in-ranges, writable-day, writable-tick, time-digits}
 use Rattle.wire.proofs.words.RoundTrip.{digits-decimal, digits-in-range, day-back, tick-back, digits-again, again-writable}
 use Rattle.card.specs.declared.card.Card.{Card}
 use Rattle.card.specs.Lawful.{lawful}
 use Rattle.irig.specs.Table.{Field, Element, table, at, digitOf}
-use Rattle.irig.specs.Writing.{secondsOf, fieldOf, elementOf, frameOf, writeRefusal, rowWritten}
+use Rattle.irig.specs.Writing.{fieldOf, elementOf, frameOf, writeRefusal, rowWritten}
 use Rattle.irig.specs.Reading.{fits, allFit, clear, sparesClear, fieldIn, digitsIn, digitsInRange, readLines, readRefusal, readFrame}
 use Rattle.irig.proofs.table.Laws.{all-at, all-of, at-place, hundred-of, field-of, fit-at, bit-back}
 use Rattle.irig.proofs.Numbers.{read-number}
+use Rattle.irig.proofs.reading.Laws.{no-fraction}
 use Rattle.irig.proofs.writing.Laws.{digit, field-is, field-within, time-writable}
 
 -- A FRAME AND ITS ELEMENTS
@@ -53,10 +54,6 @@ element-clear v (Element.bit f i) = refl
 
 -- WRITTEN, THEN READ
 
--- a tick of day without its fraction
-abbrev pub whole : ℕ → ℕ
-whole tick = tick / 10000000 * 10000000
-
 module _ (day tick : ℕ) (w : writable day tick ≡ true) (rest : List ℕ) where
   abbrev row : List ℕ
   row = frameOf day tick ++ rest
@@ -78,15 +75,15 @@ module _ (day tick : ℕ) (w : writable day tick ≡ true) (rest : List ℕ) whe
   field-back : (f : Field) → fieldIn row f ≡ digit day tick f
   field-back f = field-of row v (frame-at day tick rest) f (field-within day tick w f) ∙ sym (field-is day tick f)
 
-  whole-writable : writable day (whole tick) ≡ true
-  whole-writable = let d = writable-day day tick w in let t = writable-tick day tick w in in-ranges day (whole tick) (d .0) (d .1) (omega arith)
+  whole-writable : writable day (withoutFraction tick) ≡ true
+  whole-writable = let d = writable-day day tick w in let t = writable-tick day tick w in in-ranges day (withoutFraction tick) (d .0) (d .1) (omega arith)
 
-  no-fraction : digits 10 7 (fractionOf (whole tick)) ++ (0 ∷ []) ≡ replicate 8 0
+  zeros-behind : digits 10 7 (fractionOf (withoutFraction tick)) ++ (0 ∷ []) ≡ replicate 8 0
   unfolding digits
-  no-fraction = ap (λ (x : ℕ). digits 10 7 x ++ (0 ∷ [])) (fraction-whole tick)
+  zeros-behind = ap (λ (x : ℕ). digits 10 7 x ++ (0 ∷ [])) (fraction-whole tick)
 
   -- its digits are those of the time without the fraction
-  digits-back : digitsIn row ≡ timeDigits day (whole tick)
+  digits-back : digitsIn row ≡ timeDigits day (withoutFraction tick)
   unfolding digitsIn
   digits-back =
       cc (
@@ -102,16 +99,15 @@ module _ (day tick : ℕ) (w : writable day tick ≡ true) (rest : List ℕ) whe
         hour-whole tick,
         minute-whole tick,
         second-whole tick,
-        no-fraction,
-        time-digits day (whole tick),
+        zeros-behind,
+        time-digits day (withoutFraction tick),
       )
 
-  seconds-back : fieldIn row Field.binarySeconds ≡ secondsOf (whole tick)
-  unfolding secondsOf
-  seconds-back = field-back Field.binarySeconds ∙ (let q : tick / 10000000 ≡ whole tick / 10000000 = omega arith in q)
+  seconds-back : fieldIn row Field.binarySeconds ≡ wholeSeconds (withoutFraction tick)
+  seconds-back = field-back Field.binarySeconds ∙ (let q : tick / 10000000 ≡ withoutFraction tick / 10000000 = omega arith in q)
 
-  tick-is : tickIn (digitsIn row) ≡ whole tick
-  tick-is = ap tickIn digits-back ∙ tick-back day (whole tick) whole-writable
+  tick-is : tickIn (digitsIn row) ≡ withoutFraction tick
+  tick-is = ap tickIn digits-back ∙ tick-back day (withoutFraction tick) whole-writable
 
   not-refused : readRefusal row ≡ 0
   unfolding readRefusal
@@ -120,17 +116,17 @@ module _ (day tick : ℕ) (w : writable day tick ≡ true) (rest : List ℕ) whe
         le-ltb (length row) 100 long,
         all-fit,
         all-clear,
-        ap decimal digits-back ∙ digits-decimal day (whole tick),
-        ap digitsInRange digits-back ∙ digits-in-range day (whole tick) whole-writable,
-        eq-eqb (fieldIn row Field.binarySeconds) (secondsOf (tickIn (digitsIn row))) (seconds-back ∙ ap secondsOf (sym tick-is)),
+        ap decimal digits-back ∙ digits-decimal day (withoutFraction tick),
+        ap digitsInRange digits-back ∙ digits-in-range day (withoutFraction tick) whole-writable,
+        eq-eqb (fieldIn row Field.binarySeconds) (wholeSeconds (tickIn (digitsIn row))) (seconds-back ∙ ap wholeSeconds (sym tick-is)),
       )
 
   -- what is written reads as the day and the tick without its fraction
-  pub read-written : readFrame row ≡ timeRead 0 day (whole tick)
+  pub read-written : readFrame row ≡ timeRead 0 day (withoutFraction tick)
   unfolding readFrame
   read-written =
       ap (λ (k : ℕ). pick (eqb k 0) (timeRead 0 (dayIn (digitsIn row)) (tickIn (digitsIn row))) (timeRead k 0 0)) not-refused
-      ∙ ap₂ (timeRead 0) (ap dayIn digits-back ∙ day-back day (whole tick) whole-writable) tick-is
+      ∙ ap₂ (timeRead 0) (ap dayIn digits-back ∙ day-back day (withoutFraction tick) whole-writable) tick-is
 
 -- READ, THEN WRITTEN
 
@@ -141,7 +137,7 @@ record Passed (row : List ℕ) : Type 0 where
   clear : sparesClear row ≡ true
   decimals : decimal (digitsIn row) ≡ true
   range : digitsInRange (digitsIn row) ≡ true
-  seconds : fieldIn row Field.binarySeconds ≡ secondsOf (tickIn (digitsIn row))
+  seconds : fieldIn row Field.binarySeconds ≡ wholeSeconds (tickIn (digitsIn row))
 
 passed : (row : List ℕ) → readRefusal row ≡ 0 → Passed row
 unfolding readRefusal
@@ -151,19 +147,15 @@ passed row n =
     let c = quiet-first (not (sparesClear row)) _ (b .1) in
     let d = quiet-first (not (decimal (digitsIn row))) _ (c .1) in
     let e = quiet-first (not (digitsInRange (digitsIn row))) _ (d .1) in
-    let f = quiet-first (not (eqb (fieldIn row Field.binarySeconds) (secondsOf (tickIn (digitsIn row))))) _ (e .1) in
+    let f = quiet-first (not (eqb (fieldIn row Field.binarySeconds) (wholeSeconds (tickIn (digitsIn row))))) _ (e .1) in
     record {
       long = ltb-false (length row) 100 (a .0);
       fit = not-false (allFit row) (b .0);
       clear = not-false (sparesClear row) (c .0);
       decimals = not-false (decimal (digitsIn row)) (d .0);
       range = not-false (digitsInRange (digitsIn row)) (e .0);
-      seconds = eqb-true (fieldIn row Field.binarySeconds) (secondsOf (tickIn (digitsIn row))) (not-false _ (f .0));
+      seconds = eqb-true (fieldIn row Field.binarySeconds) (wholeSeconds (tickIn (digitsIn row))) (not-false _ (f .0));
     }
-
-no-fraction-read : (row : List ℕ) → tickIn (digitsIn row) ≡ whole (tickIn (digitsIn row))
-unfolding digitsIn
-no-fraction-read row = whole-second (digitsIn row) refl
 
 twenty : (row : List ℕ) → length (digitsIn row) ≡ 20
 unfolding digitsIn
@@ -194,7 +186,7 @@ module _ (row : List ℕ) (n : readFrame row .number ≡ 0) where
 
   -- the fields of what is read are the frame's
   digit-again : (f : Field) → digit day tick f ≡ fieldIn row f
-  unfolding digitsIn secondsOf
+  unfolding digitsIn
   digit-again Field.secondUnits = ap (λ (l : List ℕ). getD l 11 0) (sym (time-digits day tick) ∙ again)
   digit-again Field.secondTens = ap (λ (l : List ℕ). getD l 10 0) (sym (time-digits day tick) ∙ again)
   digit-again Field.minuteUnits = ap (λ (l : List ℕ). getD l 9 0) (sym (time-digits day tick) ∙ again)
@@ -249,8 +241,8 @@ module _ (row : List ℕ) (n : readFrame row .number ≡ 0) where
   pub read-writable : writable (readFrame row .day) (readFrame row .tick .ticks) ≡ true
   read-writable = ap (λ (r : TimeRead). writable (r .day) (r .tick .ticks)) read-as ∙ again-writable ds (twenty row) (was .decimals) (was .range)
 
-  pub read-whole : readFrame row .tick .ticks ≡ whole (readFrame row .tick .ticks)
-  read-whole = ap (λ (r : TimeRead). r .tick .ticks) read-as ∙ no-fraction-read row ∙ ap (λ (r : TimeRead). whole (r .tick .ticks)) (sym read-as)
+  pub read-whole : readFrame row .tick .ticks ≡ withoutFraction (readFrame row .tick .ticks)
+  read-whole = ap (λ (r : TimeRead). r .tick .ticks) read-as ∙ no-fraction row ∙ ap (λ (r : TimeRead). withoutFraction (r .tick .ticks)) (sym read-as)
 
 -- NO SECOND SPELLING
 
@@ -260,7 +252,7 @@ one-spelling a b n m e =
     sym (written-read a n) ∙ ap (λ (r : TimeRead). frameOf (r .day) (r .tick .ticks)) e ∙ written-read b m
 
 -- the fraction is not written
-frame-whole : (day tick : ℕ) → writable day tick ≡ true → frameOf day tick ≡ frameOf day (whole tick)
+frame-whole : (day tick : ℕ) → writable day tick ≡ true → frameOf day tick ≡ frameOf day (withoutFraction tick)
 frame-whole day tick w =
     let r = read-written day tick w [] in
     sym
@@ -286,11 +278,11 @@ module _ (c : Card) (row : List ℕ) where
   row-is h l = simp (writes h l)
 
   -- what is written for a lawful card reads as its day, and its tick without the fraction
-  pub read-back : lawful c ≡ true → 100 ≤ length row → readFrame (rowWritten c row) ≡ timeRead 0 cardDay (whole cardTick)
+  pub read-back : lawful c ≡ true → 100 ≤ length row → readFrame (rowWritten c row) ≡ timeRead 0 cardDay (withoutFraction cardTick)
   read-back h l = ap readFrame (row-is h l) ∙ read-written cardDay cardTick (time-writable c h) (drop 100 row)
 
   -- a row that reads is as it was when a frame is written into it for a card of that day and second
-  pub write-back : lawful c ≡ true → readFrame row .number ≡ 0 → cardDay ≡ readFrame row .day → whole cardTick ≡ readFrame row .tick .ticks → rowWritten c row ≡ row
+  pub write-back : lawful c ≡ true → readFrame row .number ≡ 0 → cardDay ≡ readFrame row .day → withoutFraction cardTick ≡ readFrame row .tick .ticks → rowWritten c row ≡ row
   write-back h n d t =
       row-is h (was row n .long)
       ∙ ap (λ (f : List ℕ). f ++ drop 100 row) (frame-whole cardDay cardTick (time-writable c h) ∙ ap₂ frameOf d t ∙ written-read row n)

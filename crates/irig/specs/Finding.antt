@@ -26,7 +26,7 @@ beforeSecond [] = 0
 beforeSecond (a ∷ []) = 1
 beforeSecond (a ∷ (c ∷ es)) = pick (eqb a 2 && eqb c 2) 1 (suc (beforeSecond (c ∷ es)))
 
--- cut: it and the next 99 are a frame, if so many are there; and go on from element 99. At most so many frames as the first argument says, o elements having stood before.
+-- cut: it and the next 99 are a frame, if so many are there; and go on from element 99. At most as many frames as the first argument says, o elements having stood before.
 unfoldable pub framesFrom : ℕ → ℕ → List ℕ → List Found
 framesFrom zero o es = []
 framesFrom (suc most) o es =
@@ -55,7 +55,7 @@ abbrev pub takenAll : List (List ℕ) → Stream → List ℕ
 takenAll [] s = []
 takenAll (row ∷ rows) s = take (takeRow s row .taken) row ++ takenAll rows (takeRow s row .stream)
 
--- a finished frame is the last hundred of the n elements that have been taken
+-- a finished frame is the last hundred of the n elements that have been taken since the record was fresh
 abbrev pub foundBy : ℕ → Finished → List Found
 foundBy n Finished.Nothing = []
 foundBy n (Finished.Frame time) = record { first = n - 100; read = time } ∷ []
@@ -88,6 +88,6 @@ pub record Left (s : Stream) : Type 0 where
   pub rows : List (List ℕ)
   pub leave : afterAll rows freshStream ≡ s
 
--- a marker, if the last was one; or a marker and what is held, the first of which is a marker too
+-- a marker, if the last was one; or a marker and what is held, the first of which is a marker too: nothing but the record's own elements and a 2
 unfoldable pub way : Stream → List (List ℕ)
 way s = pick (eqb (s .held) 0) (pick (s .marked) ((2 ∷ []) ∷ []) []) ((2 ∷ take (s .held) (s .elements)) ∷ [])

@@ -6,11 +6,11 @@ use lib.ListN.{length, getD, replicate}
 use lib.Dec.{ltb, eqb}
 use Rattle.wire.specs.Digits.{pick}
 use Rattle.wire.specs.Numbers.{Line, _if_, given}
+use Rattle.wire.specs.Time.{wholeSeconds}
 use Rattle.wire.specs.Words.{decimal, inRange, dayIn, hourIn, minuteIn, secondIn, tickIn, timeRead}
 use Rattle.wire.specs.declared.words.TimeRead.{TimeRead}
 use Rattle.irig.specs.declared.reading.Summed.{Summed}
-use Rattle.irig.specs.Table.{Field, Element, number, at, sumTo, allTo, base}
-use Rattle.irig.specs.Writing.{secondsOf}
+use Rattle.irig.specs.Table.{Field, Element, fieldNumber, at, sumTo, allTo, fieldShift}
 
 -- a marker where the table has one, and 0 or 1 everywhere else
 unfoldable pub fits : Element → ℕ → Bool
@@ -32,7 +32,7 @@ sparesClear row = allTo 100 (λ (j : ℕ). clear (at j) (getD row j 0))
 
 -- fields are told apart by their number
 abbrev pub same : Field → Field → Bool
-same f g = eqb (number f) (number g)
+same f g = eqb (fieldNumber f) (fieldNumber g)
 
 -- what an element adds to a field: bit i of it counts 2 to the power i
 unfoldable pub share : Field → Element → ℕ → ℕ
@@ -64,7 +64,7 @@ readLines row =
     ∷ 23 if not (sparesClear row)
     ∷ 17 if not (decimal (digitsIn row))
     ∷ 11 if not (digitsInRange (digitsIn row))
-    ∷ 24 if not (eqb (fieldIn row Field.binarySeconds) (secondsOf (tickIn (digitsIn row))))
+    ∷ 24 if not (eqb (fieldIn row Field.binarySeconds) (wholeSeconds (tickIn (digitsIn row))))
     ∷ []
 
 unfoldable pub readRefusal : List ℕ → ℕ
@@ -76,11 +76,11 @@ readFrame row = pick (eqb (readRefusal row) 0) (timeRead 0 (dayIn (digitsIn row)
 
 -- WITHIN THE CRATE
 
--- what an element adds to the number by which frames are read
+-- what an element adds to the number by which a frame is read
 unfoldable pub weighed : Element → ℕ → ℕ
 weighed Element.marker e = 0
 weighed Element.spare e = e * 2 ^ 53
-weighed (Element.bit f i) e = e * 2 ^ (base f + i)
+weighed (Element.bit f i) e = e * 2 ^ (fieldShift f + i)
 
 unfoldable pub weighedTo : List ℕ → ℕ → ℕ
 weighedTo row n = sumTo n (λ (j : ℕ). weighed (at j) (getD row j 0))

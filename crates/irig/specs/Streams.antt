@@ -24,8 +24,8 @@ searching marked = record { elements = replicate 100 0; held = 0; marked = marke
 abbrev pub freshStream : Stream
 freshStream = searching false
 
--- 18: a record that no calls of ours could have left. While searching it holds nothing. While a frame comes in it holds 1 to 99 elements, the first of them a marker and
--- the others anything, and its mark is clear. Behind what it holds stand zeros.
+-- a record that some calls of ours leave; any other is 18. While searching it holds nothing, and the mark is free. While a frame comes in it holds 1 to 99 elements, the first
+-- of them a marker and the others anything, and the mark is clear. Behind what it holds stand zeros.
 unfoldable pub lawful : Stream → Bool
 lawful s =
     pick (eqb (s .held) 0)
@@ -54,7 +54,7 @@ rowTaken s number taken finished = record { stream = s; number = number; taken =
 abbrev pub frameEnds : Stream → ℕ → RowTaken
 frameEnds s e = rowTaken (searching (eqb e 2)) 0 1 (Finished.Frame (readFrame (s .elements)))
 
--- as many elements were taken before
+-- with n more elements taken before
 abbrev pub behind : ℕ → RowTaken → RowTaken
 behind n t = rowTaken (t .stream) (t .number) (n + t .taken) (t .finished)
 

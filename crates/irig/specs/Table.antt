@@ -10,17 +10,17 @@ pub data Field : Type 0 where
   secondUnits secondTens minuteUnits minuteTens hourUnits hourTens dayUnits dayTens dayHundreds binarySeconds : Field
 
 -- each has a number, by which they are told apart
-unfoldable pub number : Field → ℕ
-number Field.secondUnits = 0
-number Field.secondTens = 1
-number Field.minuteUnits = 2
-number Field.minuteTens = 3
-number Field.hourUnits = 4
-number Field.hourTens = 5
-number Field.dayUnits = 6
-number Field.dayTens = 7
-number Field.dayHundreds = 8
-number Field.binarySeconds = 9
+unfoldable pub fieldNumber : Field → ℕ
+fieldNumber Field.secondUnits = 0
+fieldNumber Field.secondTens = 1
+fieldNumber Field.minuteUnits = 2
+fieldNumber Field.minuteTens = 3
+fieldNumber Field.hourUnits = 4
+fieldNumber Field.hourTens = 5
+fieldNumber Field.dayUnits = 6
+fieldNumber Field.dayTens = 7
+fieldNumber Field.dayHundreds = 8
+fieldNumber Field.binarySeconds = 9
 
 -- what an element is: a marker, spare, or a bit of a field, bit 0 being the lowest
 pub data Element : Type 0 where
@@ -84,9 +84,9 @@ table =
 unfoldable pub at : ℕ → Element
 at j = getD table j Element.spare
 
--- the digit of n in a base that stands for that base to the power i: a decimal digit, or a bit
+-- digit i of n in base r, the lowest being digit 0: a decimal digit, or a bit
 unfoldable pub digitOf : ℕ → ℕ → ℕ → ℕ
-digitOf base i n = n / base ^ i % base
+digitOf r i n = n / r ^ i % r
 
 -- what the first n places add up to
 unfoldable pub sumTo : ℕ → (ℕ → ℕ) → ℕ
@@ -100,11 +100,11 @@ allTo (suc n) test = allTo n test && test n
 
 -- WITHIN THE CRATE
 
--- Both ways go by one number. It holds the nine digits as time words do, four bits to a digit, above them the binary seconds, and above those what the spare elements add
--- up to: the place of each field's lowest bit there, and how many bits it has.
+-- Both ways go by one number of 64 bits. It holds the nine digits as time words do, four bits to a digit, above them the binary seconds, and above those what the spare
+-- elements add up to. By how many bits the lowest bit of a field is shifted there, and how many bits it has.
 
-unfoldable pub base : Field → ℕ
-base f = number f * 4
+unfoldable pub fieldShift : Field → ℕ
+fieldShift f = fieldNumber f * 4
 
 unfoldable pub width : Field → ℕ
 width Field.secondUnits = 4
@@ -118,8 +118,8 @@ width Field.dayTens = 4
 width Field.dayHundreds = 2
 width Field.binarySeconds = 17
 
--- the place of an element there; a marker has none, which is written 64
-unfoldable pub placeOf : Element → ℕ
-placeOf Element.marker = 64
-placeOf Element.spare = 53
-placeOf (Element.bit f i) = base f + i
+-- and by how many an element is shifted; a marker does not stand there, which is written 64
+unfoldable pub shiftOf : Element → ℕ
+shiftOf Element.marker = 64
+shiftOf Element.spare = 53
+shiftOf (Element.bit f i) = fieldShift f + i

@@ -7,14 +7,10 @@ use lib.ListN.{length, drop}
 use lib.Dec.{ltb, eqb}
 use Rattle.wire.specs.Digits.{pick}
 use Rattle.wire.specs.Numbers.{Line, _if_, given}
-use Rattle.wire.specs.Time.{hourOf, minuteOf, secondOf}
+use Rattle.wire.specs.Time.{hourOf, minuteOf, secondOf, wholeSeconds}
 use Rattle.card.specs.declared.card.Card.{Card}
 use Rattle.card.specs.Lawful.{lawful}
-use Rattle.irig.specs.Table.{Field, Element, table, digitOf, base, width}
-
--- the seconds of the day that have passed on a tick of day
-unfoldable pub secondsOf : ℕ → ℕ
-secondsOf tick = tick / 10000000
+use Rattle.irig.specs.Table.{Field, Element, table, digitOf, fieldShift, width}
 
 -- the fields of a time
 unfoldable pub fieldOf : ℕ → ℕ → Field → ℕ
@@ -27,7 +23,7 @@ fieldOf day tick Field.hourTens = digitOf 10 1 (hourOf tick)
 fieldOf day tick Field.dayUnits = digitOf 10 0 day
 fieldOf day tick Field.dayTens = digitOf 10 1 day
 fieldOf day tick Field.dayHundreds = digitOf 10 2 day
-fieldOf day tick Field.binarySeconds = secondsOf tick
+fieldOf day tick Field.binarySeconds = wholeSeconds tick
 
 -- what is written for an element, given the fields
 unfoldable pub elementOf : (Field → ℕ) → Element → ℕ
@@ -54,11 +50,11 @@ rowWritten c row = pick (eqb (writeRefusal c (length row)) 0) (frameOf (c .clock
 
 -- WITHIN THE CRATE
 
--- a number that holds the fields at their places, and nothing above them
+-- a number that holds the fields, each by its shift, and nothing above them
 pub record Holds (n : ℕ) (fields : Field → ℕ) : Type 0 where
-  pub each : (f : Field) → n / 2 ^ base f % 2 ^ width f ≡ fields f
+  pub each : (f : Field) → n / 2 ^ fieldShift f % 2 ^ width f ≡ fields f
   pub small : n < 2 ^ 53
 
--- what such a number has for an element, by its place
+-- what such a number has for an element, by its shift
 unfoldable pub elementAt : ℕ → ℕ → ℕ
-elementAt n place = pick (eqb place 64) 2 (digitOf 2 place n)
+elementAt n shift = pick (eqb shift 64) 2 (digitOf 2 shift n)

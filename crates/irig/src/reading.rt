@@ -1,7 +1,8 @@
 // Reading a frame.
 use crate::table::ELEMENTS;
 use crate::table::MARKER;
-use crate::table::places;
+use crate::table::NO_SHIFT;
+use crate::table::shifts;
 use wire::numbers;
 use wire::time::Ticks;
 use wire::words::TimeRead;
@@ -12,10 +13,10 @@ ghost use lib.ListN.{length};
 ghost use Rattle.wire.specs.Words.{timeRead, readWords};
 ghost use Rattle.irig.specs.Reading.{readFrame, scanned, wordsIn};
 
-// The number from which each spare element counts.
+// What each set spare element adds: all fields together stay below it.
 const SPARES: u64 = 9_007_199_254_740_992;
 
-// One pass over the elements: whether all fit, and then the number that holds them.
+// Whether all elements fit, and then the number that holds them.
 pub(crate) struct Summed {
     pub fits: bool,
     pub number: u64,
@@ -26,25 +27,26 @@ const MISFIT: Summed = Summed {
     number: 0,
 };
 
+// One pass over the elements, which ends at the first that does not fit.
 fn scan(row: &[u8]) -> Summed
     requires { ⌜ 100 ≤ length (now row) ⌝ }
     ensures { λ r. ⌜ r ≡ scanned (now (row .entry)) ⌝ }
 {
-    let places = places();
+    let shifts = shifts();
     let mut number: u64 = 0;
     let mut i: usize = 0;
     while i < ELEMENTS {
         let e = row[i];
-        let place = places[i];
-        if place == MARKER {
-            if e != 2 {
+        let shift = shifts[i];
+        if shift == NO_SHIFT {
+            if e != MARKER {
                 return MISFIT;
             }
         } else {
             if 1 < e {
                 return MISFIT;
             }
-            number += (e as u64) << (place as u64);
+            number += (e as u64) << (shift as u64);
         }
         i += 1;
     }
@@ -77,6 +79,7 @@ fn read_digits(number: u64) -> TimeRead
 
 // The day and the tick of day that a frame writes, in the first 100 places of a row: 14 for a shorter row, 22 for a marker that is missing or misplaced or an element above 2,
 // 23 for a set spare element, 17 for a digit above 9, 11 for a field outside its range, 24 for binary seconds that are not those of the digits.
+// Day and tick are 0 beside a refusal. Places behind the hundred are not looked at.
 pub fn read_frame(row: &[u8]) -> TimeRead
     ensures { λ r. ⌜ r ≡ readFrame (now (row .entry)) ⌝ }
 {

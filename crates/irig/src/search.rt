@@ -1,4 +1,5 @@
 // The search for two markers in a row.
+use crate::table::MARKER;
 ghost use mathlib.Core.Path.{_≡_};
 ghost use Rattle.irig.specs.Streams.{searched};
 
@@ -16,7 +17,7 @@ pub(crate) fn search(marked: bool, row: &[u8]) -> Searched
     let mut before = marked;
     let mut i: usize = 0;
     while i < row.len() {
-        let marker = row[i] == 2;
+        let marker = row[i] == MARKER;
         i += 1;
         if before & marker {
             return Searched {

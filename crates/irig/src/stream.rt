@@ -2,6 +2,7 @@
 use crate::reading::read_frame;
 use crate::search::search;
 use crate::table::ELEMENTS;
+use crate::table::MARKER;
 use wire::numbers;
 use wire::words::TimeRead;
 ghost use mathlib.Core.Path.{_≡_};
@@ -10,7 +11,7 @@ ghost use Prim.Native.Nat.{_+_, _-_, _≤_, _<_};
 ghost use lib.ListN.{length, getD, drop};
 ghost use lib.Seq.{paste};
 ghost use Rattle.wire.specs.Digits.{below};
-ghost use Rattle.irig.specs.Streams.{searching, freshStream, lawful, oneByOne, behind, takeRow, firstHeld};
+ghost use Rattle.irig.specs.Streams.{searching as searches, freshStream, lawful, oneByOne, behind, takeRow, firstHeld};
 
 // What has come of a frame, with zeros behind it; and, while none has begun, whether the element before was a marker.
 pub struct Stream {
@@ -33,8 +34,9 @@ pub struct RowTaken {
     pub finished: Finished,
 }
 
-fn search_on(marked: bool) -> Stream
-    ensures { λ r. ⌜ r ≡ searching marked ⌝ }
+// A record that searches, the element before being a marker or not.
+fn searching(marked: bool) -> Stream
+    ensures { λ r. ⌜ r ≡ searches marked ⌝ }
 {
     Stream {
         elements: [0; 100],
@@ -47,10 +49,10 @@ fn search_on(marked: bool) -> Stream
 pub fn fresh_stream() -> Stream
     ensures { λ r. ⌜ r ≡ freshStream ⌝ }
 {
-    search_on(false)
+    searching(false)
 }
 
-// Only zeros from a place on: they add up to 0. So the elements are taken many at a time, with no way out before the end.
+// Only zeros from a place on. They are added up and not asked one by one, so the loop has no way out before its end.
 fn zeros_from(elements: &[u8], from: usize) -> bool
     requires { ⌜ (length (now elements) ≡ 100) × (from ≤ 100) ⌝ }
     ensures { λ r. ⌜ r ≡ below 1 (drop from (now (elements .entry))) ⌝ }
@@ -76,7 +78,7 @@ pub fn is_lawful(stream: Stream) -> bool
     if stream.held == 0 {
         return zeros;
     }
-    !stream.marked & ((elements[0] == 2) & zeros)
+    !stream.marked & ((elements[0] == MARKER) & zeros)
 }
 
 // Stores the next elements of a row from a place on. Every other place stays as it was.
@@ -115,7 +117,7 @@ fn hold(begun: [u8; 100], held: usize, row: &[u8], from: usize) -> RowTaken
     store(&mut elements, held, row, from, missing);
     let time = read_frame(&elements);
     RowTaken {
-        stream: search_on(elements[99] == 2),
+        stream: searching(elements[99] == MARKER),
         number: numbers::DONE,
         taken: from + missing,
         finished: Finished::Frame(time),
@@ -129,12 +131,12 @@ fn begin(row: &[u8], from: usize) -> RowTaken
 {
     if row.len() - from < 99 {
         let mut begun: [u8; 100] = [0; 100];
-        begun[0] = 2;
+        begun[0] = MARKER;
         return hold(begun, 1, row, from);
     }
     let time = read_frame(&row[from - 1..from + 99]);
     RowTaken {
-        stream: search_on(row[from + 98] == 2),
+        stream: searching(row[from + 98] == MARKER),
         number: numbers::DONE,
         taken: from + 99,
         finished: Finished::Frame(time),
@@ -142,7 +144,7 @@ fn begin(row: &[u8], from: usize) -> RowTaken
 }
 
 // Takes the elements of a row up to and including the last of a frame, or all of them: the record afterwards, how many were taken, and the frame, if one was finished,
-// with its number and time. 18 for a record that no calls leave, and then nothing is taken.
+// with its number and time. 18 for a record that no calls leave, and then it comes back as it was and nothing is taken.
 pub fn take_row(stream: Stream, row: &[u8]) -> RowTaken
     ensures { λ r. ⌜ r ≡ takeRow stream (now (row .entry)) ⌝ }
 {
@@ -163,7 +165,7 @@ pub fn take_row(stream: Stream, row: &[u8]) -> RowTaken
         return begin(row, s.taken);
     }
     RowTaken {
-        stream: search_on(s.marked),
+        stream: searching(s.marked),
         number: numbers::DONE,
         taken: s.taken,
         finished: Finished::Nothing,

@@ -1,23 +1,26 @@
-// The table of the frame: where each of its hundred elements stands in one number of 64 bits, by which both ways go.
+// The table of the frame, for both ways: by how many bits each of its hundred elements is shifted in one number of 64 bits.
 ghost use mathlib.Core.Path.{_≡_};
 ghost use mathlib.Core.List.{map};
-ghost use Rattle.irig.specs.Table.{table, placeOf};
+ghost use Rattle.irig.specs.Table.{table, shiftOf};
 
 // How many elements a frame has.
 pub(crate) const ELEMENTS: usize = 100;
 
-// A marker: it has no place in the number.
-pub(crate) const MARKER: u8 = 64;
+// A marker.
+pub(crate) const MARKER: u8 = 2;
+
+// The shift of an element that does not stand in the number: a marker's.
+pub(crate) const NO_SHIFT: u8 = 64;
 
 // The table. Each call lays out a copy, so a caller asks once and reads it for all elements.
-pub(crate) fn places() -> [u8; 100]
-    ensures { λ r. ⌜ r ≡ map placeOf table ⌝ }
+pub(crate) fn shifts() -> [u8; 100]
+    ensures { λ r. ⌜ r ≡ map shiftOf table ⌝ }
 {
-    PLACES
+    SHIFTS
 }
 
-// The nine digits stand from place 0 on, four to each, the binary seconds from place 36 on; all spare elements stand at place 53 and are added up there.
-const PLACES: [u8; 100] = [
+// The nine digits have four bits each, from bit 0 on; the binary seconds follow from bit 36 on, and from bit 53 on what the spare elements add up to.
+const SHIFTS: [u8; 100] = [
     64,
     0,
     1,

@@ -1,7 +1,8 @@
 // Writing a frame for a card's time.
 use crate::table::ELEMENTS;
 use crate::table::MARKER;
-use crate::table::places;
+use crate::table::NO_SHIFT;
+use crate::table::shifts;
 use card::card::Card;
 use card::lawful::is_lawful;
 use wire::numbers;
@@ -13,7 +14,7 @@ ghost use mathlib.Core.List.{_++_, map};
 ghost use Prim.Native.Nat.{_≤_};
 ghost use lib.ListN.{length, drop};
 ghost use Rattle.wire.specs.Words.{writable};
-ghost use Rattle.irig.specs.Table.{table, placeOf};
+ghost use Rattle.irig.specs.Table.{table, shiftOf};
 ghost use Rattle.irig.specs.Writing.{fieldOf, writeRefusal, rowWritten, Holds, elementAt};
 
 // The number that holds a time's fields: the digits as its words have them, and above them the seconds of the day.
@@ -27,27 +28,27 @@ fn number_of(day: u16, tick: Ticks) -> u64
     tick.ticks / 10_000_000 * 68_719_476_736 + digits
 }
 
-// An element, by its place in the number.
-fn element(number: u64, place: u8) -> u8
-    requires { ⌜ place ≤ 64 ⌝ }
-    ensures { λ r. ⌜ r ≡ elementAt number place ⌝ }
+// An element, by its shift in the number.
+fn element(number: u64, shift: u8) -> u8
+    requires { ⌜ shift ≤ 64 ⌝ }
+    ensures { λ r. ⌜ r ≡ elementAt number shift ⌝ }
 {
-    if place == MARKER {
-        2
+    if shift == NO_SHIFT {
+        MARKER
     } else {
-        ((number >> (place as u64)) % 2) as u8
+        ((number >> (shift as u64)) % 2) as u8
     }
 }
 
 // The elements of a number at the front of a row. Places behind them stay as they were.
 fn put_elements(number: u64, row: &mut [u8])
     requires { ⌜ 100 ≤ length (now row) ⌝ }
-    ensures { λ r. ⌜ now (row .exit) ≡ map (elementAt number) (map placeOf table) ++ drop 100 (now (row .entry)) ⌝ }
+    ensures { λ r. ⌜ now (row .exit) ≡ map (elementAt number) (map shiftOf table) ++ drop 100 (now (row .entry)) ⌝ }
 {
-    let places = places();
+    let shifts = shifts();
     let mut i: usize = 0;
     while i < ELEMENTS {
-        row[i] = element(number, places[i]);
+        row[i] = element(number, shifts[i]);
         i += 1;
     }
 }

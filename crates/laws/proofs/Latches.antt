@@ -128,7 +128,7 @@ time-latching (Call.wait n row) c = inl (time-same (Call.wait n row) c refl)
 time-latching Call.reset c = inr LatchesTime.resets
 time-latching (Call.save row) c = inl (time-same (Call.save row) c refl)
 time-latching (Call.load bytes) c = inl (time-same (Call.load bytes) c refl)
-time-latching (Call.frame row) c = inl (time-same (Call.frame row) c refl)
+time-latching (Call.writeFrame row) c = inl (time-same (Call.writeFrame row) c refl)
 
 pub event-latching : (k : Call) (c : Card) → (after k c .event .latch ≡ c .event .latch) ⊎ LatchesEvent k
 unfolding touches among
@@ -144,7 +144,7 @@ event-latching (Call.wait n row) c = inl (event-same (Call.wait n row) c refl)
 event-latching Call.reset c = inr LatchesEvent.resets
 event-latching (Call.save row) c = inl (event-same (Call.save row) c refl)
 event-latching (Call.load bytes) c = inl (event-same (Call.load bytes) c refl)
-event-latching (Call.frame row) c = inl (event-same (Call.frame row) c refl)
+event-latching (Call.writeFrame row) c = inl (event-same (Call.writeFrame row) c refl)
 
 -- WHAT THEY ARE LEFT AT
 

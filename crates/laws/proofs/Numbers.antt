@@ -110,7 +110,7 @@ number-given (Call.wait n row) c = wait-gives c n (length row)
 number-given Call.reset c = refl
 number-given (Call.save row) c = refl
 number-given (Call.load bytes) c = refl
-number-given (Call.frame row) c = refl
+number-given (Call.writeFrame row) c = refl
 
 -- no line has the number 0
 numbered : (k : Call) (c : Card) → absent 0 (lines k c) ≡ true
@@ -126,7 +126,7 @@ numbered (Call.wait n row) c = refl
 numbered Call.reset c = refl
 numbered (Call.save row) c = refl
 numbered (Call.load bytes) c = refl
-numbered (Call.frame row) c = refl
+numbered (Call.writeFrame row) c = refl
 
 -- 0 is given exactly if no line holds
 pub done-exactly-if : (k : Call) (c : Card) → number k c ≡ 0 ↔ quiet (lines k c) ≡ true

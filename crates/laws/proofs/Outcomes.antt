@@ -81,7 +81,7 @@ pub data Effect (c : Card) : Call → Card → Type 0 where
   resets : Effect c Call.reset (resetCard (c .clock .time) (c .settings))
   saves : (row : List ℕ) → Effect c (Call.save row) c
   loads : (bytes : List ℕ) → eqb (length bytes) 5 && meaningful (unpacked 2 8 bytes) ≡ true → Effect c (Call.load bytes) (withSettings c (settingsIn (unpacked 2 8 bytes)))
-  writes-frame : (row : List ℕ) → Effect c (Call.frame row) c
+  writes-frame : (row : List ℕ) → Effect c (Call.writeFrame row) c
 
 -- how a call ends: the card afterwards and the number
 pub data Outcome (k : Call) (c : Card) : Card → ℕ → Type 0 where
@@ -309,4 +309,4 @@ outcome (Call.wait n row) c =
 outcome Call.reset c = only-18 _ c _ (λ l. resets) (lawful c) refl
 outcome (Call.save row) c = room-by _ c (length row) 5 (saves row) (lawful c) refl
 outcome (Call.load bytes) c = one-line _ c _ 19 (eqb (length bytes) 5 && meaningful (unpacked 2 8 bytes)) refl refl (loads bytes) (lawful c) refl
-outcome (Call.frame row) c = room-by _ c (length row) 100 (writes-frame row) (lawful c) refl
+outcome (Call.writeFrame row) c = room-by _ c (length row) 100 (writes-frame row) (lawful c) refl

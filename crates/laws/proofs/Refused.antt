@@ -122,7 +122,7 @@ values-beside (Call.wait n row) c h = wait-beside n row c (eqb (waitRefusal c n 
 values-beside Call.reset c h = refl
 values-beside (Call.save row) c h = refl
 values-beside (Call.load bytes) c h = refl
-values-beside (Call.frame row) c h = refl
+values-beside (Call.writeFrame row) c h = refl
 
 -- every lent row beside a refusal
 pub row-stays : (k : Call) (c : Card) → (number k c ≡ 0 → ⊥) → left k c ≡ lent k
@@ -139,4 +139,4 @@ row-stays (Call.wait n row) c h = wait-beside n row c (eqb (waitRefusal c n (len
 row-stays Call.reset c h = refl
 row-stays (Call.save row) c h = row-beside (saveRefusal c (length row)) _ row _ refl h
 row-stays (Call.load bytes) c h = refl
-row-stays (Call.frame row) c h = row-beside (Writing.writeRefusal c (length row)) _ row _ refl h
+row-stays (Call.writeFrame row) c h = row-beside (Writing.writeRefusal c (length row)) _ row _ refl h

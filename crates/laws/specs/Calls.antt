@@ -41,7 +41,7 @@ pub data Call : Type 0 where
   reset : Call
   save : (row : List ℕ) → Call
   load : (bytes : List ℕ) → Call
-  frame : (row : List ℕ) → Call
+  writeFrame : (row : List ℕ) → Call
 
 -- the card afterwards; the line, saving and writing a frame take the card and do not give it back
 unfoldable pub after : Call → Card → Card
@@ -57,7 +57,7 @@ after (Call.wait n row) c = Waiting.wait c n (length row) .card
 after Call.reset c = Reset.reset c .card
 after (Call.save row) c = c
 after (Call.load bytes) c = Saved.load c bytes .card
-after (Call.frame row) c = c
+after (Call.writeFrame row) c = c
 
 -- the number given back
 unfoldable pub number : Call → Card → ℕ
@@ -73,7 +73,7 @@ number (Call.wait n row) c = Waiting.wait c n (length row) .waited .number
 number Call.reset c = Reset.reset c .number
 number (Call.save row) c = Saved.saveRefusal c (length row)
 number (Call.load bytes) c = Saved.load c bytes .number
-number (Call.frame row) c = Writing.writeRefusal c (length row)
+number (Call.writeFrame row) c = Writing.writeRefusal c (length row)
 
 -- the values given back beside card and number
 abbrev lineValues : InterruptLine → List ℕ
@@ -95,7 +95,7 @@ values (Call.wait n row) c = waitValues (Waiting.wait c n (length row) .waited)
 values Call.reset c = []
 values (Call.save row) c = []
 values (Call.load bytes) c = []
-values (Call.frame row) c = []
+values (Call.writeFrame row) c = []
 
 -- the row that a call is lent, and what it leaves in it
 unfoldable pub lent : Call → List ℕ
@@ -111,7 +111,7 @@ lent (Call.wait n row) = row
 lent Call.reset = []
 lent (Call.save row) = row
 lent (Call.load bytes) = bytes
-lent (Call.frame row) = row
+lent (Call.writeFrame row) = row
 
 unfoldable pub left : Call → Card → List ℕ
 left (Call.setTime year day hour minute second) c = []
@@ -126,7 +126,7 @@ left (Call.wait n row) c = Waiting.rowWaited c n row
 left Call.reset c = []
 left (Call.save row) c = Saved.rowSaved c row
 left (Call.load bytes) c = bytes
-left (Call.frame row) c = Writing.rowWritten c row
+left (Call.writeFrame row) c = Writing.rowWritten c row
 
 -- FIELDS
 
@@ -237,7 +237,7 @@ touches Call.reset c =
     Field.clockSource ∷ Field.offset ∷ Field.timeLatch ∷ Field.eventLatch ∷ Field.control ∷ Field.mask ∷ Field.pending ∷ Field.level ∷ Field.vector ∷ Field.done ∷ Field.queue ∷ Field.strobe ∷ Field.periodic ∷ []
 touches (Call.save row) c = []
 touches (Call.load bytes) c = Field.mode ∷ Field.format ∷ Field.modulation ∷ Field.clockSource ∷ Field.generator ∷ Field.offset ∷ []
-touches (Call.frame row) c = []
+touches (Call.writeFrame row) c = []
 
 -- THE LATCHES
 

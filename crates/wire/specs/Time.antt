@@ -27,3 +27,10 @@ fractionOf tick = tick % 10000000
 -- and back
 unfoldable pub tickAt : ℕ → ℕ → ℕ → ℕ → ℕ
 tickAt hour minute second fraction = ((hour * 60 + minute) * 60 + second) * 10000000 + fraction
+
+-- the whole seconds of the day that have passed on a tick of day, and that tick without its fraction
+abbrev pub wholeSeconds : ℕ → ℕ
+wholeSeconds tick = tick / 10000000
+
+abbrev pub withoutFraction : ℕ → ℕ
+withoutFraction tick = wholeSeconds tick * 10000000

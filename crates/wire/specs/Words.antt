@@ -1,5 +1,5 @@
 -- Time words: five words, four decimal digits a word, highest digit first.
-use Prim.Native.Nat.{ℕ, _*_, _/_}
+use Prim.Native.Nat.{ℕ, _*_}
 use mathlib.Core.Bool.{Bool, _&&_, not}
 use mathlib.Core.List.{List, [], _∷_, _++_}
 use lib.ListN.{take, drop}
@@ -88,10 +88,6 @@ unfoldable pub readWords : List ℕ → TimeRead
 readWords ws = readDigits (unpacked 16 4 ws)
 
 -- WITHIN THE CRATE
-
--- the whole seconds of a tick of day
-abbrev pub wholeSeconds : ℕ → ℕ
-wholeSeconds tick = tick / 10000000
 
 -- the twenty digits of a time two at a time, as numbers: digits of base 100
 unfoldable pub pairsOf : ℕ → ℕ → List ℕ

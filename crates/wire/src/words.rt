@@ -11,8 +11,8 @@ ghost use mathlib.Core.List.{[], _∷_, _++_};
 ghost use Prim.Native.Nat.{_<_};
 ghost use lib.ListN.{take};
 ghost use Rattle.wire.specs.Digits.{digits, num, below, unpacked, PairTable};
-ghost use Rattle.wire.specs.Time.{ticksOfDay};
-ghost use Rattle.wire.specs.Words.{wholeSeconds, pairsOf, wordsOf, writable, wordsOrZero, writeWords, decimal, inRange, readWords};
+ghost use Rattle.wire.specs.Time.{ticksOfDay, wholeSeconds};
+ghost use Rattle.wire.specs.Words.{pairsOf, wordsOf, writable, wordsOrZero, writeWords, decimal, inRange, readWords};
 
 // A day in shares of a hundred days, rounded up, as the next three are, so that no whole unit is counted short.
 const DAY_IN_HUNDREDS: u64 = 1_407_374_883_554;

@@ -1,9 +1,9 @@
--- What the code of reading rests on: the number that one pass over a frame adds up has each field at its place, what the spare elements add up to above them, and its low bits
+-- What the code of reading rests on: the number that one pass over a frame adds up has each field by its shift, what the spare elements add up to above them, and its low bits
 -- are the frame's digits as time words have them. By the laws of the table and of digits.
 -- Assumes nothing.
 use Prim.Native.Nat.{ℕ, zero, suc, _+_, _*_, _/_, _%_, _^_, _≤_, _<_}
 use mathlib.Core.Path.{_≡_, refl, sym, _∙_, ap}
-use mathlib.Core.Bool.{Bool, true, false, _&&_, not}
+use mathlib.Core.Bool.{Bool, true, false, _&&_}
 use mathlib.Core.List.{List, [], _∷_, map}
 use mathlib.Core.Logic.{⊎-elim}
 use native.Mathlib.Nat.{mul-comm, mul-assoc, mul-le-mul, mod-eq-of-lt}
@@ -13,17 +13,17 @@ use lib.Dec.{ltb, eqb, lit<, lit≤}
 use lib.ListN.{length, getD}
 use borrow.Author.Tests.{lt-ltb, eq-eqb, ne-eqb, le-ltb}
 use Rattle.wire.specs.Digits.{pick, num, below, packed, unpacked}
+use Rattle.wire.specs.Time.{withoutFraction}
 use Rattle.wire.specs.Words.{decimal, dayIn, tickIn, timeRead, readWords, readDigits}
 use Rattle.wire.specs.declared.words.TimeRead.{TimeRead}
 use Rattle.wire.proofs.digits.Laws.{unpack-packed, and-true, lt-or-le, clash}
 use Rattle.wire.proofs.words.Laws.{read-by-digits, read-bad, read-outside, read-done, whole-second}
 use Rattle.irig.specs.declared.reading.Summed.{Summed}
-use Rattle.irig.specs.Table.{Field, Element, number, table, at, sumTo, allTo, base, placeOf}
-use Rattle.irig.specs.Writing.{secondsOf}
+use Rattle.irig.specs.Table.{Field, Element, fieldNumber, table, at, sumTo, allTo, fieldShift, shiftOf}
 use Rattle.irig.specs.Reading.{fits, allFit, clear, sparesClear, share, fieldIn, digitsIn, digitsInRange, readRefusal, readFrame, weighed, weighedTo, scanned, wordsIn}
-use Rattle.irig.proofs.table.Laws.{at-place, fit-at, fieldTo, field-whole, field-small, bit-low, together, bounds, together-small}
+use Rattle.irig.proofs.table.Laws.{shift-is, fit-at, fieldTo, field-whole, field-small, bit-low, together, bounds, together-small}
 
--- ALL FIELDS AT THEIR PLACES
+-- ALL FIELDS TOGETHER
 
 together-both : (v w : Field → ℕ) → together v + together w ≡ together (λ (f : Field). v f + w f)
 unfolding together
@@ -45,8 +45,8 @@ shifted : (e b i : ℕ) → e * 2 ^ (b + i) ≡ e * 2 ^ i * 2 ^ b
 shifted e b i = ap (λ (x : ℕ). e * x) (pow-add 2 b i ∙ mul-comm (2 ^ b) (2 ^ i)) ∙ sym (mul-assoc e (2 ^ i) (2 ^ b))
 
 -- one bit alone
-one-field : (f : Field) (x : ℕ) → x * 2 ^ base f ≡ together (λ (g : Field). pick (eqb (number g) (number f)) x 0)
-unfolding together base number
+one-field : (f : Field) (x : ℕ) → x * 2 ^ fieldShift f ≡ together (λ (g : Field). pick (eqb (fieldNumber g) (fieldNumber f)) x 0)
+unfolding together fieldShift fieldNumber
 one-field Field.secondUnits x = omega arith
 one-field Field.secondTens x = omega arith
 one-field Field.minuteUnits x = omega arith
@@ -62,7 +62,7 @@ weighed-is : (t : Element) (e : ℕ) → weighed t e ≡ together (λ (f : Field
 unfolding weighed together share spareShare
 weighed-is Element.marker e = refl
 weighed-is Element.spare e = omega arith
-weighed-is (Element.bit f i) e = shifted e (base f) i ∙ one-field f (e * 2 ^ i) ∙ omega arith
+weighed-is (Element.bit f i) e = shifted e (fieldShift f) i ∙ one-field f (e * 2 ^ i) ∙ omega arith
 
 pub zero-sum : (a e : ℕ) → (eqb a 0 && ltb e 1) ≡ eqb (a + e) 0
 zero-sum a e =
@@ -175,45 +175,45 @@ module _ (row : List ℕ) where
 
 -- ONE PASS
 
--- a marker alone has place 64
+-- a marker alone has shift 64
 
 record Plain (j : ℕ) : Type 0 where
   fit : (e : ℕ) → fits (at j) e ≡ ltb e 2
-  weigh : (e : ℕ) → weighed (at j) e ≡ e * 2 ^ placeOf (at j)
-  low : placeOf (at j) ≤ 53
+  weigh : (e : ℕ) → weighed (at j) e ≡ e * 2 ^ shiftOf (at j)
+  low : shiftOf (at j) ≤ 53
 
 spare-plain : (j : ℕ) → at j ≡ Element.spare → Plain j
-unfolding fits weighed placeOf
+unfolding fits weighed shiftOf
 spare-plain j a =
     record {
       fit = λ e. ap (λ (t : Element). fits t e) a;
-      weigh = λ e. ap (λ (t : Element). weighed t e) a ∙ ap (λ (t : Element). e * 2 ^ placeOf t) (sym a);
+      weigh = λ e. ap (λ (t : Element). weighed t e) a ∙ ap (λ (t : Element). e * 2 ^ shiftOf t) (sym a);
       low = rw a (lit≤ tt);
     }
 
 bit-plain : (j : ℕ) → j < 100 → (f : Field) (i : ℕ) → at j ≡ Element.bit f i → Plain j
-unfolding fits weighed placeOf
+unfolding fits weighed shiftOf
 bit-plain j l f i a =
     record {
       fit = λ e. ap (λ (t : Element). fits t e) a;
-      weigh = λ e. ap (λ (t : Element). weighed t e) a ∙ ap (λ (t : Element). e * 2 ^ placeOf t) (sym a);
+      weigh = λ e. ap (λ (t : Element). weighed t e) a ∙ ap (λ (t : Element). e * 2 ^ shiftOf t) (sym a);
       low = rw a (let b = bit-low j l f i a in omega arith);
     }
 
-not-marked : (j : ℕ) → at j ≡ Element.marker → placeOf (at j) ≡ 64
-unfolding placeOf
-not-marked j a = ap placeOf a
+marker-64 : (j : ℕ) → at j ≡ Element.marker → shiftOf (at j) ≡ 64
+unfolding shiftOf
+marker-64 j a = ap shiftOf a
 
-plain-place : (j : ℕ) → j < 100 → (placeOf (at j) ≡ 64 → ⊥) → Plain j
-plain-place j l p = go (at j) refl
+plain-shift : (j : ℕ) → j < 100 → (shiftOf (at j) ≡ 64 → ⊥) → Plain j
+plain-shift j l p = go (at j) refl
   where
     go : (t : Element) → at j ≡ t → Plain j
-    go Element.marker a = absurd (p (not-marked j a))
+    go Element.marker a = absurd (p (marker-64 j a))
     go Element.spare a = spare-plain j a
     go (Element.bit f i) a = bit-plain j l f i a
 
-marker-place : (j : ℕ) → j < 100 → placeOf (at j) ≡ 64 → at j ≡ Element.marker
-marker-place j l p = go (at j) refl
+marker-shift : (j : ℕ) → j < 100 → shiftOf (at j) ≡ 64 → at j ≡ Element.marker
+marker-shift j l p = go (at j) refl
   where
     go : (t : Element) → at j ≡ t → at j ≡ Element.marker
     go Element.marker a = a
@@ -244,19 +244,16 @@ pub scan-none : (row : List ℕ) → Scanning row 0 0
 unfolding allTo weighedTo sumTo
 scan-none row = record { fit = refl; sum = refl; small = lit≤ tt }
 
--- the places that the code has
-module _ (ps : List ℕ) (is : ps ≡ map placeOf table) (row : List ℕ) (n i : ℕ) (l : i < 100) where
-  place-is : getD ps i 0 ≡ placeOf (at i)
-  place-is = ap (λ (qs : List ℕ). getD qs i 0) is ∙ at-place placeOf i l
-
-  pub place-low : (getD ps i 0 ≡ 64 → ⊥) → getD ps i 0 ≤ 53
-  place-low p = rw place-is (plain-place i l (λ e. p (place-is ∙ e)) .low)
+-- the shifts that the code has
+module _ (ss : List ℕ) (is : ss ≡ map shiftOf table) (row : List ℕ) (n i : ℕ) (l : i < 100) where
+  pub shift-low : (getD ss i 0 ≡ 64 → ⊥) → getD ss i 0 ≤ 53
+  shift-low p = rw (shift-is ss is i l) (plain-shift i l (λ e. p (shift-is ss is i l ∙ e)) .low)
 
   -- a marker adds nothing
-  pub scan-marker : Scanning row n i → getD ps i 0 ≡ 64 → getD row i 0 ≡ 2 → Scanning row n (i + 1)
+  pub scan-marker : Scanning row n i → getD ss i 0 ≡ 64 → getD row i 0 ≡ 2 → Scanning row n (i + 1)
   unfolding allTo weighedTo sumTo
   scan-marker s p e =
-      let k = marker-place i l (sym place-is ∙ p) in
+      let k = marker-shift i l (sym (shift-is ss is i l) ∙ p) in
       let o : i + 1 ≡ suc i = omega arith in
       rw o
       record {
@@ -265,26 +262,26 @@ module _ (ps : List ℕ) (is : ps ≡ map placeOf table) (row : List ℕ) (n i :
         small = let u = s .small in omega arith;
       }
 
-  -- any other element counts by its place
-  pub scan-plain : Scanning row n i → (getD ps i 0 ≡ 64 → ⊥) → getD row i 0 ≤ 1 → Scanning row (n + getD row i 0 * 2 ^ getD ps i 0 % 18446744073709551616) (i + 1)
+  -- any other element counts by its shift
+  pub scan-plain : Scanning row n i → (getD ss i 0 ≡ 64 → ⊥) → getD row i 0 ≤ 1 → Scanning row (n + getD row i 0 * 2 ^ getD ss i 0 % 18446744073709551616) (i + 1)
   unfolding allTo weighedTo sumTo
   scan-plain s p e =
-      let k = plain-place i l (λ q. p (place-is ∙ q)) in
-      let v = plain-small (getD row i 0) (getD ps i 0) e (place-low p) in
-      let x : getD row i 0 * 2 ^ getD ps i 0 % 18446744073709551616 ≡ getD row i 0 * 2 ^ getD ps i 0 = mod-eq-of-lt (omega arith) in
+      let k = plain-shift i l (λ q. p (shift-is ss is i l ∙ q)) in
+      let v = plain-small (getD row i 0) (getD ss i 0) e (shift-low p) in
+      let x : getD row i 0 * 2 ^ getD ss i 0 % 18446744073709551616 ≡ getD row i 0 * 2 ^ getD ss i 0 = mod-eq-of-lt (omega arith) in
       let o : i + 1 ≡ suc i = omega arith in
       rw o
       record {
         fit = simp (s .fit, k .fit (getD row i 0), lt-ltb (getD row i 0) 2 (omega arith));
-        sum = let w = k .weigh (getD row i 0) ∙ ap (λ (x : ℕ). getD row i 0 * 2 ^ x) (sym place-is) in let u = s .sum in omega arith;
+        sum = let w = k .weigh (getD row i 0) ∙ ap (λ (x : ℕ). getD row i 0 * 2 ^ x) (sym (shift-is ss is i l)) in let u = s .sum in omega arith;
         small = let u = s .small in omega arith;
       }
 
   -- and the number stays within its 64 bits
-  pub sum-fits : Scanning row n i → (getD ps i 0 ≡ 64 → ⊥) → getD row i 0 ≤ 1 → n + getD row i 0 * 2 ^ getD ps i 0 % 18446744073709551616 < 18446744073709551616
+  pub sum-fits : Scanning row n i → (getD ss i 0 ≡ 64 → ⊥) → getD row i 0 ≤ 1 → n + getD row i 0 * 2 ^ getD ss i 0 % 18446744073709551616 < 18446744073709551616
   sum-fits s p e =
-      let v = plain-small (getD row i 0) (getD ps i 0) e (place-low p) in
-      let x : getD row i 0 * 2 ^ getD ps i 0 % 18446744073709551616 ≡ getD row i 0 * 2 ^ getD ps i 0 = mod-eq-of-lt (omega arith) in
+      let v = plain-small (getD row i 0) (getD ss i 0) e (shift-low p) in
+      let x : getD row i 0 * 2 ^ getD ss i 0 % 18446744073709551616 ≡ getD row i 0 * 2 ^ getD ss i 0 = mod-eq-of-lt (omega arith) in
       let u = s .small in omega arith
 
 -- an element that does not fit
@@ -296,12 +293,12 @@ misfit-scan row i l e = go (allFit row) refl
     go true h = clash (sym (fit-at row h i l) ∙ e)
     go false h = refl
 
-module _ (ps : List ℕ) (is : ps ≡ map placeOf table) (row : List ℕ) (i : ℕ) (l : i < 100) where
-  pub marker-missing : getD ps i 0 ≡ 64 → (getD row i 0 ≡ 2 → ⊥) → record { fits = false; number = 0 } ≡ scanned row
-  marker-missing p e = sym (misfit-scan row i l (marker-fits (at i) (getD row i 0) (marker-place i l (sym (place-is ps is row 0 i l) ∙ p)) ∙ ne-eqb (getD row i 0) 2 e))
+module _ (ss : List ℕ) (is : ss ≡ map shiftOf table) (row : List ℕ) (i : ℕ) (l : i < 100) where
+  pub marker-missing : getD ss i 0 ≡ 64 → (getD row i 0 ≡ 2 → ⊥) → record { fits = false; number = 0 } ≡ scanned row
+  marker-missing p e = sym (misfit-scan row i l (marker-fits (at i) (getD row i 0) (marker-shift i l (sym (shift-is ss is i l) ∙ p)) ∙ ne-eqb (getD row i 0) 2 e))
 
-  pub element-above : (getD ps i 0 ≡ 64 → ⊥) → 1 < getD row i 0 → record { fits = false; number = 0 } ≡ scanned row
-  element-above p e = sym (misfit-scan row i l (plain-place i l (λ q. p (place-is ps is row 0 i l ∙ q)) .fit (getD row i 0) ∙ le-ltb (getD row i 0) 2 e))
+  pub element-above : (getD ss i 0 ≡ 64 → ⊥) → 1 < getD row i 0 → record { fits = false; number = 0 } ≡ scanned row
+  element-above p e = sym (misfit-scan row i l (plain-shift i l (λ q. p (shift-is ss is i l ∙ q)) .fit (getD row i 0) ∙ le-ltb (getD row i 0) 2 e))
 
 pub scan-all : (row : List ℕ) (n i : ℕ) → i ≡ 100 → Scanning row n i → record { fits = true; number = n } ≡ scanned row
 unfolding scanned allFit
@@ -310,6 +307,11 @@ scan-all row n i e s =
     simp (f, s .sum, e)
 
 -- THE CALL
+
+-- there is no fraction
+pub no-fraction : (row : List ℕ) → tickIn (digitsIn row) ≡ withoutFraction (tickIn (digitsIn row))
+unfolding digitsIn
+no-fraction row = whole-second (digitsIn row) refl
 
 module _ (row : List ℕ) where
   abbrev ds : List ℕ
@@ -353,24 +355,19 @@ module _ (row : List ℕ) where
             go true d false e = absurd (let q : 11 ≡ 0 = sym (ap (λ (t : TimeRead). t .number) (read-outside ds d e)) ∙ z in omega arith)
             go true d true e = record { digits = d; range = e; is = read-done ds d e }
 
-        -- there is no fraction
-        pub whole : tickIn ds ≡ tickIn ds / 10000000 * 10000000
-        unfolding digitsIn
-        whole = whole-second ds refl
-
         module _ (z : readDigits ds .number ≡ 0) where
           tick-read : readDigits ds .tick .ticks ≡ tickIn ds
           tick-read = ap (λ (t : TimeRead). t .tick .ticks) (read-tested z .is)
 
           pub read-differs : (readDigits ds .tick .ticks ≡ fieldIn row Field.binarySeconds * 10000000 → ⊥) → readFrame row ≡ timeRead 24 0 0
-          unfolding readFrame readRefusal secondsOf
+          unfolding readFrame readRefusal
           read-differs n =
               let q = read-tested z in
-              let w = whole in
+              let w = no-fraction row in
               simp (le-ltb (length row) 100 l, f, s, q .digits, q .range, ne-eqb (fieldIn row Field.binarySeconds) (tickIn ds / 10000000) (λ e. n (tick-read ∙ w ∙ ap (λ (x : ℕ). x * 10000000) (sym e))))
 
           pub read-time : readDigits ds .tick .ticks ≡ fieldIn row Field.binarySeconds * 10000000 → readDigits ds ≡ readFrame row
-          unfolding readFrame readRefusal secondsOf
+          unfolding readFrame readRefusal
           read-time n =
               let q = read-tested z in
               let e : fieldIn row Field.binarySeconds * 10000000 ≡ tickIn ds = sym n ∙ tick-read in

@@ -155,7 +155,7 @@ module _ (es : List ℕ) (l : 99 ≤ length es) where
   rest-is = drop-cons es 98 0 (omega arith)
 
   -- a frame that has begun ends, and the search goes on from its last element
-  pub ends-whole : oneByOne (firstHeld) es ≡ rowTaken (searching (eqb (getD es 98 0) 2)) 0 99 (Finished.Frame (readFrame (2 ∷ es)))
+  pub ends-whole : oneByOne firstHeld es ≡ rowTaken (searching (eqb (getD es 98 0) 2)) 0 99 (Finished.Frame (readFrame (2 ∷ es)))
   ends-whole =
       held-whole 98 es (set (replicate 100 0) 0 2) 1 refl (λ q. omega arith) refl l
       ∙ ap (λ (ys : List ℕ). rowTaken (searching (eqb (getD ys 99 0) 2)) 0 99 (Finished.Frame (readFrame ys))) (hundred-held es)
@@ -177,7 +177,7 @@ pub step-search : (m : Bool) (e : ℕ) (es : List ℕ) → (m && eqb e 2) ≡ fa
 unfolding oneByOne
 step-search m e es h = ap (λ (s : Stream). pick (eqb (s .held) 100) (frameEnds s e) (behind 1 (oneByOne s es))) (next-search m e h)
 
-pub step-second : (m : Bool) (e : ℕ) (es : List ℕ) → (m && eqb e 2) ≡ true → oneByOne (searching m) (e ∷ es) ≡ behind 1 (oneByOne (firstHeld) es)
+pub step-second : (m : Bool) (e : ℕ) (es : List ℕ) → (m && eqb e 2) ≡ true → oneByOne (searching m) (e ∷ es) ≡ behind 1 (oneByOne firstHeld es)
 unfolding oneByOne
 step-second m e es h = ap (λ (s : Stream). pick (eqb (s .held) 100) (frameEnds s e) (behind 1 (oneByOne s es))) (next-second m e h)
 

@@ -15,7 +15,7 @@ use lib.ListN.{length, getD, length-map}
 use borrow.Author.Tests.{ltb-true, eqb-true, eq-eqb}
 use Rattle.wire.specs.Digits.{pick}
 use Rattle.wire.proofs.digits.Laws.{and-left, and-right, lt-or-le}
-use Rattle.irig.specs.Table.{Field, Element, number, table, at, digitOf, sumTo, allTo, base, width, placeOf}
+use Rattle.irig.specs.Table.{Field, Element, fieldNumber, table, at, digitOf, sumTo, allTo, fieldShift, width, shiftOf}
 use Rattle.irig.specs.Writing.{elementOf}
 use Rattle.irig.specs.Reading.{fits, allFit, same, share, fieldIn}
 
@@ -59,8 +59,8 @@ fieldNumbered (suc (suc (suc (suc (suc (suc (suc zero))))))) = Field.dayTens
 fieldNumbered (suc (suc (suc (suc (suc (suc (suc (suc zero)))))))) = Field.dayHundreds
 fieldNumbered (suc (suc (suc (suc (suc (suc (suc (suc (suc n))))))))) = Field.binarySeconds
 
-numbered : (f : Field) → fieldNumbered (number f) ≡ f
-unfolding number
+numbered : (f : Field) → fieldNumbered (fieldNumber f) ≡ f
+unfolding fieldNumber
 numbered Field.secondUnits = refl
 numbered Field.secondTens = refl
 numbered Field.minuteUnits = refl
@@ -73,11 +73,11 @@ numbered Field.dayHundreds = refl
 numbered Field.binarySeconds = refl
 
 -- two fields with one number are one
-same-field : (f g : Field) → same f g ≡ true → f ≡ g
-same-field f g e = sym (numbered f) ∙ ap fieldNumbered (eqb-true (number f) (number g) e) ∙ numbered g
+same-one : (f g : Field) → same f g ≡ true → f ≡ g
+same-one f g e = sym (numbered f) ∙ ap fieldNumbered (eqb-true (fieldNumber f) (fieldNumber g) e) ∙ numbered g
 
 same-self : (f : Field) → same f f ≡ true
-same-self f = eq-eqb (number f) (number f) refl
+same-self f = eq-eqb (fieldNumber f) (fieldNumber f) refl
 
 -- HOW OFTEN A FIELD HAS COME
 
@@ -90,7 +90,7 @@ unfoldable pub count : Field → ℕ → ℕ
 count f n = sumTo n (λ (j : ℕ). counts f (at j))
 
 pub count-all : (f : Field) → count f 100 ≡ width f
-unfolding count sumTo at table number width
+unfolding count sumTo at table fieldNumber width
 count-all Field.secondUnits = refl
 count-all Field.secondTens = refl
 count-all Field.minuteUnits = refl
@@ -109,7 +109,7 @@ rises j Element.spare = true
 rises j (Element.bit f i) = eqb i (count f j)
 
 all-rise : allTo 100 (λ (j : ℕ). rises j (at j)) ≡ true
-unfolding allTo rises count sumTo at table number
+unfolding allTo rises count sumTo at table fieldNumber
 all-rise = refl
 
 -- so the bit at a place is the one that its field has not had
@@ -154,11 +154,11 @@ own-bit f n i l a =
       counted = ap (counts f) a ∙ ap (λ (t : Bool). pick t 1 0) (same-self f);
     }
 
-step : (f : Field) (n : ℕ) → n < 100 → Other f n ⊎ Own f n
-step f n l = go (at n) refl
+what-to : (f : Field) (n : ℕ) → n < 100 → Other f n ⊎ Own f n
+what-to f n l = go (at n) refl
   where
     chosen : (g : Field) (i : ℕ) → at n ≡ Element.bit g i → (t : Bool) → same f g ≡ t → Other f n ⊎ Own f n
-    chosen g i a true s = inr (own-bit f n i l (a ∙ ap (λ (h : Field). Element.bit h i) (sym (same-field f g s))))
+    chosen g i a true s = inr (own-bit f n i l (a ∙ ap (λ (h : Field). Element.bit h i) (sym (same-one f g s))))
     chosen g i a false s = inl (other-bit f n g i a s)
 
     go : (t : Element) → at n ≡ t → Other f n ⊎ Own f n
@@ -181,7 +181,7 @@ count-more f n l =
     ⊎-elim
     (λ o. let e = count-other f n o in omega arith)
     (λ o. let e = count-own f n o in omega arith)
-    (step f n l)
+    (what-to f n l)
 
 count-rises : (f : Field) (m n : ℕ) → m ≤ n → n ≤ 100 → count f m ≤ count f n
 count-rises f m zero l h = let e : m ≡ 0 = omega arith in rw e (le-refl (count f 0))
@@ -259,7 +259,7 @@ module _ (row : List ℕ) (f : Field) where
       ⊎-elim
       (λ o. ap (λ (x : ℕ). x % 2 ^ suc i) (to-other n o) ∙ r)
       (λ o. ap (λ (x : ℕ). x % 2 ^ suc i) (to-own n o) ∙ above (fieldTo row f n) (getD row n 0) (count f n) (suc i) (let m = count-rises f (suc j) n (omega arith) (omega arith) in omega arith) ∙ r)
-      (step f n (omega arith)))
+      (what-to f n (omega arith)))
       (λ q. let e : suc n ≡ suc j = omega arith in ap (λ (k : ℕ). fieldTo row f k % 2 ^ suc i) e)
       (lt-or-le j n)
 
@@ -281,7 +281,7 @@ module _ (row : List ℕ) (h : allFit row ≡ true) where
       ⊎-elim
       (λ o. rw (to-other row f n o, count-other f n o) (field-below f n (omega arith)))
       (λ o. rw (to-own row f n o, count-own f n o) (one-more (fieldTo row f n) (getD row n 0) (count f n) (field-below f n (omega arith)) (bit-fits (at n) f (count f n) (getD row n 0) (o .next) (fit-at n (omega arith)))))
-      (step f n (omega arith))
+      (what-to f n (omega arith))
 
   -- so it is below its width
   pub field-small : (f : Field) → fieldIn row f < 2 ^ width f
@@ -311,13 +311,13 @@ module _ (row : List ℕ) (v : Field → ℕ) (h : (j : ℕ) → j < 100 → get
       ∙ ap₂ (λ (x e : ℕ). x + e * 2 ^ count f n) (field-so-far f n (omega arith)) (h n (omega arith) ∙ ap (elementOf v) (o .next))
       ∙ next-digit v f (count f n)
       ∙ ap (λ (k : ℕ). v f % 2 ^ k) (sym (count-own f n o)))
-      (step f n (omega arith))
+      (what-to f n (omega arith))
 
   pub field-of : (f : Field) → v f < 2 ^ width f → fieldIn row f ≡ v f
   field-of f l =
       field-whole row f ∙ field-so-far f 100 (omega arith) ∙ ap (λ (k : ℕ). v f % 2 ^ k) (count-all f) ∙ mod-eq-of-lt l
 
--- PLACES IN THE NUMBER
+-- SHIFTS IN THE NUMBER
 
 -- a bit stands within its field
 pub bit-within : (j : ℕ) → j < 100 → (f : Field) (i : ℕ) → at j ≡ Element.bit f i → i < width f
@@ -327,36 +327,36 @@ bit-within j l f i a =
     let m = count-rises f (suc j) 100 (omega arith) (omega arith) in
     let w = count-all f in omega arith
 
--- and every field below place 53
-field-within : (f : Field) → base f + width f ≤ 53
-unfolding base number width
-field-within Field.secondUnits = lit≤ tt
-field-within Field.secondTens = lit≤ tt
-field-within Field.minuteUnits = lit≤ tt
-field-within Field.minuteTens = lit≤ tt
-field-within Field.hourUnits = lit≤ tt
-field-within Field.hourTens = lit≤ tt
-field-within Field.dayUnits = lit≤ tt
-field-within Field.dayTens = lit≤ tt
-field-within Field.dayHundreds = lit≤ tt
-field-within Field.binarySeconds = lit≤ tt
+-- and every field below bit 53
+field-top : (f : Field) → fieldShift f + width f ≤ 53
+unfolding fieldShift fieldNumber width
+field-top Field.secondUnits = lit≤ tt
+field-top Field.secondTens = lit≤ tt
+field-top Field.minuteUnits = lit≤ tt
+field-top Field.minuteTens = lit≤ tt
+field-top Field.hourUnits = lit≤ tt
+field-top Field.hourTens = lit≤ tt
+field-top Field.dayUnits = lit≤ tt
+field-top Field.dayTens = lit≤ tt
+field-top Field.dayHundreds = lit≤ tt
+field-top Field.binarySeconds = lit≤ tt
 
-pub bit-low : (j : ℕ) → j < 100 → (f : Field) (i : ℕ) → at j ≡ Element.bit f i → base f + i < 53
-bit-low j l f i a = let w = bit-within j l f i a in let b = field-within f in omega arith
+pub bit-low : (j : ℕ) → j < 100 → (f : Field) (i : ℕ) → at j ≡ Element.bit f i → fieldShift f + i < 53
+bit-low j l f i a = let w = bit-within j l f i a in let b = field-top f in omega arith
 
-marker-last : placeOf Element.marker ≤ 64
-unfolding placeOf
+marker-last : shiftOf Element.marker ≤ 64
+unfolding shiftOf
 marker-last = lit≤ tt
 
-spare-low : placeOf Element.spare ≤ 64
-unfolding placeOf
+spare-low : shiftOf Element.spare ≤ 64
+unfolding shiftOf
 spare-low = lit≤ tt
 
-bit-place-low : (f : Field) (i : ℕ) → base f + i < 53 → placeOf (Element.bit f i) ≤ 64
-unfolding placeOf
-bit-place-low f i l = omega arith
+bit-shift-low : (f : Field) (i : ℕ) → fieldShift f + i < 53 → shiftOf (Element.bit f i) ≤ 64
+unfolding shiftOf
+bit-shift-low f i l = omega arith
 
--- the table of places is that of the elements
+-- a table that goes by the elements
 pub from-map : {A : Type 0} (g : A → ℕ) (ts : List A) (d : A) (j : ℕ) → j < length ts → getD (map g ts) j 0 ≡ g (getD ts j d)
 from-map g [] d j l = absurd (omega arith)
 from-map g (t ∷ ts) d zero l = refl
@@ -370,22 +370,26 @@ pub at-place : (g : Element → ℕ) (j : ℕ) → j < 100 → getD (map g table
 unfolding at
 at-place g j l = from-map g table Element.spare j (rw hundred l)
 
-low-element : (j : ℕ) → j < 100 → placeOf (at j) ≤ 64
+low-element : (j : ℕ) → j < 100 → shiftOf (at j) ≤ 64
 low-element j l = go (at j) refl
   where
-    go : (t : Element) → at j ≡ t → placeOf (at j) ≤ 64
+    go : (t : Element) → at j ≡ t → shiftOf (at j) ≤ 64
     go Element.marker a = rw a marker-last
     go Element.spare a = rw a spare-low
-    go (Element.bit f i) a = rw a (bit-place-low f i (bit-low j l f i a))
+    go (Element.bit f i) a = rw a (bit-shift-low f i (bit-low j l f i a))
 
--- and there is none above that of markers
-pub place-most : (ps : List ℕ) → ps ≡ map placeOf table → (j : ℕ) → j < 100 → getD ps j 0 ≤ 64
-place-most ps e j l = rw (ap (λ (qs : List ℕ). getD qs j 0) e ∙ at-place placeOf j l) (low-element j l)
+-- the shifts that the code has, and that there is none above that of markers
+
+pub shift-is : (ss : List ℕ) → ss ≡ map shiftOf table → (j : ℕ) → j < 100 → getD ss j 0 ≡ shiftOf (at j)
+shift-is ss e j l = ap (λ (ts : List ℕ). getD ts j 0) e ∙ at-place shiftOf j l
+
+pub shift-most : (ss : List ℕ) → ss ≡ map shiftOf table → (j : ℕ) → j < 100 → getD ss j 0 ≤ 64
+shift-most ss e j l = rw (shift-is ss e j l) (low-element j l)
 
 pub hundred-of : (g : Element → ℕ) → length (map g table) ≡ 100
 hundred-of g = length-map table g ∙ hundred
 
--- ALL FIELDS AT THEIR PLACES
+-- ALL FIELDS TOGETHER, EACH BY ITS SHIFT
 
 unfoldable pub together : (Field → ℕ) → ℕ
 together v =
@@ -430,9 +434,9 @@ module _ (v : Field → ℕ) (h : (f : Field) → v f < 2 ^ width f) where
         seconds = h Field.binarySeconds;
       }
 
-  -- each is found at its place
-  pub together-at : (f : Field) → together v / 2 ^ base f % 2 ^ width f ≡ v f
-  unfolding together base number width
+  -- each is found again
+  pub together-at : (f : Field) → together v / 2 ^ fieldShift f % 2 ^ width f ≡ v f
+  unfolding together fieldShift fieldNumber width
   together-at Field.secondUnits = let b = bounds in simp div-one (omega arith)
   together-at Field.secondTens = let b = bounds in omega arith
   together-at Field.minuteUnits = let b = bounds in omega arith

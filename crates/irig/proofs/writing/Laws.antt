@@ -1,4 +1,4 @@
--- What the code of writing rests on: the words of a time and its seconds, one above the other, hold the fields of the frame, and the elements that such a number has at the places of
+-- What the code of writing rests on: the words of a time and its seconds, one above the other, hold the fields of the frame, and the elements that such a number has by the shifts of
 -- the table are those of the frame. By the laws of the table and of words.
 -- Assumes nothing.
 use Prim.Native.Nat.{ℕ, suc, _+_, _*_, _/_, _%_, _-_, _^_, _≤_, _<_}
@@ -20,8 +20,8 @@ use Rattle.clock.proofs.lawful.Laws as clock
 use Rattle.card.proofs.lawful.Laws as card
 use Rattle.card.specs.declared.card.Card.{Card}
 use Rattle.card.specs.Lawful.{lawful}
-use Rattle.irig.specs.Table.{Field, Element, number, table, at, digitOf, base, width, placeOf}
-use Rattle.irig.specs.Writing.{secondsOf, fieldOf, elementOf, frameOf, writeRefusal, rowWritten, Holds, elementAt}
+use Rattle.irig.specs.Table.{Field, Element, table, at, digitOf, fieldShift, width, shiftOf}
+use Rattle.irig.specs.Writing.{fieldOf, elementOf, frameOf, writeRefusal, rowWritten, Holds, elementAt}
 use Rattle.irig.proofs.table.Laws.{from-map, at-place, hundred-of, bit-within, bit-low, together, together-at, together-small}
 
 -- THE ELEMENTS OF A NUMBER
@@ -43,35 +43,35 @@ bit-of-field n b w i l =
     ∙ ap (λ (x : ℕ). x % 2) (shr-shr n b i))
 
 module _ (n : ℕ) (v : Field → ℕ) (h : Holds n v) where
-  marker-element : elementAt n (placeOf Element.marker) ≡ elementOf v Element.marker
-  unfolding elementAt placeOf elementOf
+  marker-element : elementAt n (shiftOf Element.marker) ≡ elementOf v Element.marker
+  unfolding elementAt shiftOf elementOf
   marker-element = refl
 
-  spare-element : elementAt n (placeOf Element.spare) ≡ elementOf v Element.spare
-  unfolding elementAt placeOf elementOf digitOf
+  spare-element : elementAt n (shiftOf Element.spare) ≡ elementOf v Element.spare
+  unfolding elementAt shiftOf elementOf digitOf
   spare-element = ap (λ (x : ℕ). x % 2) (div-eq-of-lt (h .small))
 
-  bit-element : (f : Field) (i : ℕ) → i < width f → base f + i < 53 → elementAt n (placeOf (Element.bit f i)) ≡ elementOf v (Element.bit f i)
-  unfolding elementAt placeOf elementOf digitOf
+  bit-element : (f : Field) (i : ℕ) → i < width f → fieldShift f + i < 53 → elementAt n (shiftOf (Element.bit f i)) ≡ elementOf v (Element.bit f i)
+  unfolding elementAt shiftOf elementOf digitOf
   bit-element f i w l =
-      simp (ne-eqb (base f + i) 64 (λ e. omega arith))
-      (bit-of-field n (base f) (width f) i w ∙ ap (λ (x : ℕ). x / 2 ^ i % 2) (h .each f))
+      simp (ne-eqb (fieldShift f + i) 64 (λ e. omega arith))
+      (bit-of-field n (fieldShift f) (width f) i w ∙ ap (λ (x : ℕ). x / 2 ^ i % 2) (h .each f))
 
-  element-is : (j : ℕ) → j < 100 → elementAt n (placeOf (at j)) ≡ elementOf v (at j)
+  element-is : (j : ℕ) → j < 100 → elementAt n (shiftOf (at j)) ≡ elementOf v (at j)
   element-is j l = go (at j) refl
     where
-      go : (t : Element) → at j ≡ t → elementAt n (placeOf (at j)) ≡ elementOf v (at j)
+      go : (t : Element) → at j ≡ t → elementAt n (shiftOf (at j)) ≡ elementOf v (at j)
       go Element.marker a = rw a marker-element
       go Element.spare a = rw a spare-element
       go (Element.bit f i) a = rw a (bit-element f i (bit-within j l f i a) (bit-low j l f i a))
 
-  -- the elements at the places of the table
-  pub elements-of : map (elementAt n) (map placeOf table) ≡ map (elementOf v) table
+  -- the elements by the shifts of the table
+  pub elements-of : map (elementAt n) (map shiftOf table) ≡ map (elementOf v) table
   elements-of =
-      map-map (elementAt n) placeOf table
-      ∙ ext-getD 0 (map (λ (t : Element). elementAt n (placeOf t)) table) (map (elementOf v) table)
-      (hundred-of (λ (t : Element). elementAt n (placeOf t)) ∙ sym (hundred-of (elementOf v)))
-      (λ j l. let k : j < 100 = rw (hundred-of (λ (t : Element). elementAt n (placeOf t))) at l in at-place (λ (t : Element). elementAt n (placeOf t)) j k ∙ element-is j k ∙ sym (at-place (elementOf v) j k))
+      map-map (elementAt n) shiftOf table
+      ∙ ext-getD 0 (map (λ (t : Element). elementAt n (shiftOf t)) table) (map (elementOf v) table)
+      (hundred-of (λ (t : Element). elementAt n (shiftOf t)) ∙ sym (hundred-of (elementOf v)))
+      (λ j l. let k : j < 100 = rw (hundred-of (λ (t : Element). elementAt n (shiftOf t))) at l in at-place (λ (t : Element). elementAt n (shiftOf t)) j k ∙ element-is j k ∙ sym (at-place (elementOf v) j k))
 
 -- THE NUMBER OF A TIME
 
@@ -90,7 +90,7 @@ module _ (day tick : ℕ) where
   digit Field.binarySeconds = tick / 10000000
 
   pub field-is : (f : Field) → digit f ≡ fieldOf day tick f
-  unfolding fieldOf digitOf secondsOf
+  unfolding fieldOf digitOf
   field-is Field.secondUnits = simp div-one
   field-is Field.secondTens = refl
   field-is Field.minuteUnits = simp div-one
@@ -147,10 +147,10 @@ module _ (day tick : ℕ) (w : writable day tick ≡ true) (ws : List ℕ) (o : 
 
 module _ (n : ℕ) (row₀ : List ℕ) where
   abbrev elements : List ℕ
-  elements = map (elementAt n) (map placeOf table)
+  elements = map (elementAt n) (map shiftOf table)
 
   hundred : length elements ≡ 100
-  hundred = length-map (map placeOf table) (elementAt n) ∙ hundred-of placeOf
+  hundred = length-map (map shiftOf table) (elementAt n) ∙ hundred-of shiftOf
 
   -- the row when the first i elements are put
   pub record Put (row : List ℕ) (i : ℕ) : Type 0 where
@@ -161,12 +161,12 @@ module _ (n : ℕ) (row₀ : List ℕ) where
   put-none = record { front = paste-zero row₀ 0 elements; same = refl }
 
   module _ (l : 100 ≤ length row₀) (row : List ℕ) (i : ℕ) (p : Put row i) where
-    -- one more, by the places that the code has
-    pub put-more : i < 100 → (ps : List ℕ) → ps ≡ map placeOf table → (e : ℕ) → e ≡ elementAt n (getD ps i 0) → Put (set row i e) (i + 1)
-    put-more k ps is e q =
+    -- one more, by the shifts that the code has
+    pub put-more : i < 100 → (ss : List ℕ) → ss ≡ map shiftOf table → (e : ℕ) → e ≡ elementAt n (getD ss i 0) → Put (set row i e) (i + 1)
+    put-more k ss is e q =
         record {
           front =
-              ap₂ (λ (r : List ℕ) (x : ℕ). set r i x) (p .front) (q ∙ ap (λ (qs : List ℕ). elementAt n (getD qs i 0)) is ∙ sym (from-map (elementAt n) (map placeOf table) 0 i (rw (hundred-of placeOf) k)))
+              ap₂ (λ (r : List ℕ) (x : ℕ). set r i x) (p .front) (q ∙ ap (λ (qs : List ℕ). elementAt n (getD qs i 0)) is ∙ sym (from-map (elementAt n) (map shiftOf table) 0 i (rw (hundred-of shiftOf) k)))
               ∙ ap (λ (j : ℕ). set (paste row₀ 0 elements i) j (getD elements i 0)) (sym (zero-add i))
               ∙ paste-suc row₀ 0 elements i 0 (rw (zero-add i) (let m : i < length row₀ = omega arith in m)) (rw hundred k)
               ∙ ap (paste row₀ 0 elements) (let s : suc i ≡ i + 1 = omega arith in s);
@@ -195,7 +195,7 @@ module _ (c : Card) (row : List ℕ) where
   write-14 h l = (simp (h, lt-ltb (length row) 100 l), simp (h, lt-ltb (length row) 100 l))
 
   pub write-0 : lawful c ≡ true → 100 ≤ length row → (n : ℕ) → Holds n (fieldOf (c .clock .time .day) (c .clock .time .tick .ticks))
-      → (now : List ℕ) → now ≡ map (elementAt n) (map placeOf table) ++ drop 100 row → (0 ≡ writeRefusal c (length row)) × (now ≡ rowWritten c row)
+      → (now : List ℕ) → now ≡ map (elementAt n) (map shiftOf table) ++ drop 100 row → (0 ≡ writeRefusal c (length row)) × (now ≡ rowWritten c row)
   unfolding writeRefusal rowWritten frameOf
   write-0 h l n k now e =
       (simp (h, le-ltb (length row) 100 l), e ∙ ap (λ (r : List ℕ). r ++ drop 100 row) (elements-of n _ k) ∙ sym (simp (h, le-ltb (length row) 100 l)))

@@ -4,7 +4,7 @@ use mathlib.Core.Path.{_≡_, sym, _∙_, ap}
 use native.Mathlib.Nat.{div-div-eq-div-mul, div-add-mod'}
 use native.Mathlib.Omega.{arith}
 use lib.Arith.{digits-div, digits-mod}
-use Rattle.wire.specs.Time.{ticksOfDay, hourOf, minuteOf, secondOf, fractionOf, tickAt}
+use Rattle.wire.specs.Time.{ticksOfDay, hourOf, minuteOf, secondOf, fractionOf, tickAt, withoutFraction}
 
 -- put together again, the parts of a tick of day are that tick
 pub parts : (t : ℕ) → tickAt (hourOf t) (minuteOf t) (secondOf t) (fractionOf t) ≡ t
@@ -41,22 +41,19 @@ module _ (h m s f : ℕ) (hm : m < 60) (hs : s < 60) (hf : f < 10000000) where
 -- a tick of day without its fraction has the same hour, minute and second
 
 module _ (t : ℕ) where
-  abbrev whole : ℕ
-  whole = t / 10000000 * 10000000
-
-  pub hour-whole : hourOf whole ≡ hourOf t
+  pub hour-whole : hourOf (withoutFraction t) ≡ hourOf t
   unfolding hourOf
   hour-whole = omega arith
 
-  pub minute-whole : minuteOf whole ≡ minuteOf t
+  pub minute-whole : minuteOf (withoutFraction t) ≡ minuteOf t
   unfolding minuteOf
   minute-whole = omega arith
 
-  pub second-whole : secondOf whole ≡ secondOf t
+  pub second-whole : secondOf (withoutFraction t) ≡ secondOf t
   unfolding secondOf
   second-whole = omega arith
 
-  pub fraction-whole : fractionOf whole ≡ 0
+  pub fraction-whole : fractionOf (withoutFraction t) ≡ 0
   unfolding fractionOf
   fraction-whole = omega arith
 

@@ -11,7 +11,7 @@ use lib.ListN.{length, take, drop, getD, replicate}
 use lib.Seq.{ext-getD}
 use borrow.Author.Tests.{lt-ltb, le-leb, ltb-true, ltb-false, leb-true}
 use Rattle.wire.specs.Digits.{digits, num, below, packed, unpacked}
-use Rattle.wire.specs.Time.{ticksOfDay, hourOf, minuteOf, secondOf, fractionOf, tickAt}
+use Rattle.wire.specs.Time.{ticksOfDay, hourOf, minuteOf, secondOf, fractionOf, tickAt, withoutFraction}
 use Rattle.wire.specs.Words.{timeDigits, pairsOf, wordsOf, wordsOrZero, writable, decimal, field, dayIn, hourIn, minuteIn, secondIn, fractionIn, tickIn, inRange, digitsRefusal, readDigits, timeRead, readWords}
 use Rattle.wire.proofs.digits.Laws.{and-left, and-right, and-assoc, and-true, below-at, below-both, below-append, below-more, digits-below, num-below, mod-div, digits-split, digits-mod-pow, digits-of-digits, unpacked-append, num-append, written, packed-length}
 
@@ -277,6 +277,6 @@ module _ (day tick : ℕ) where
   time-digits = simp div-one
 
 -- digits without a fraction write a whole second
-pub whole-second : (ds : List ℕ) → take 7 (drop 12 ds) ≡ replicate 7 0 → tickIn ds ≡ tickIn ds / 10000000 * 10000000
+pub whole-second : (ds : List ℕ) → take 7 (drop 12 ds) ≡ replicate 7 0 → tickIn ds ≡ withoutFraction (tickIn ds)
 unfolding field num tickAt
 whole-second ds z = let f : fractionIn ds ≡ 0 = ap (num 10) z in omega arith

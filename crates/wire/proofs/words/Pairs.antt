@@ -8,8 +8,8 @@ use native.Mathlib.Omega.{arith}
 use lib.Dec.{lit<}
 use Rattle.wire.specs.Digits.{digits, Splits}
 use Rattle.wire.specs.declared.digits.Counted.{Counted}
-use Rattle.wire.specs.Time.{ticksOfDay, hourOf, minuteOf, secondOf, fractionOf}
-use Rattle.wire.specs.Words.{wholeSeconds, pairsOf}
+use Rattle.wire.specs.Time.{ticksOfDay, hourOf, minuteOf, secondOf, fractionOf, wholeSeconds}
+use Rattle.wire.specs.Words.{pairsOf}
 use Rattle.wire.proofs.digits.Shares.{Gives, rounded-up, counted, rest-gives, finer, digit, next}
 
 -- the code's factors: what one of the smaller is in shares of the larger

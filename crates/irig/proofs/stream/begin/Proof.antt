@@ -35,14 +35,14 @@ part-read-frame-end c = search needs
 read-frame-requires : tie.Need-read-frame-requires
 read-frame-requires c κs = search needs
 
-add-search-on : tie.Need-add-search-on
-add-search-on c = search needs
+add-searching : tie.Need-add-searching
+add-searching c = search needs
 
-shared-slice-read-search-on : tie.Need-shared-slice-read-search-on
-shared-slice-read-search-on c = search needs
+shared-slice-read-searching : tie.Need-shared-slice-read-searching
+shared-slice-read-searching c = search needs
 
-search-on-requires : tie.Need-search-on-requires
-search-on-requires c κs = search needs
+searching-requires : tie.Need-searching-requires
+searching-requires c κs = search needs
 
 add-t6 : tie.Need-add-t6
 add-t6 c = search needs
@@ -52,7 +52,7 @@ returns-2 c =
     let r = c .before .before in
     let f = r .before .before in
     let p = f .before .before .pre in
-    begin-whole _ _ (p .0) (p .2) (p .1) (f .if1 .left) _ (r .read-frame .ensures) _ (c .search-on .ensures)
+    begin-whole _ _ (p .0) (p .2) (p .1) (f .if1 .left) _ (r .read-frame .ensures) _ (c .searching .ensures)
 
 pub begin-spec : {M : Type 1} → statement M
 begin-spec =
@@ -68,8 +68,8 @@ begin-spec =
     part-read-frame-start
     part-read-frame-end
     read-frame-requires
-    add-search-on
-    shared-slice-read-search-on
-    search-on-requires
+    add-searching
+    shared-slice-read-searching
+    searching-requires
     add-t6
     returns-2)

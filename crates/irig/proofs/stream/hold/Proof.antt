@@ -37,11 +37,11 @@ slice-aggregate-read-frame c =
 read-frame-requires : tie.Need-read-frame-requires
 read-frame-requires c κs = search needs
 
-array-read-search-on : tie.Need-array-read-search-on
-array-read-search-on c = search needs
+array-read-searching : tie.Need-array-read-searching
+array-read-searching c = search needs
 
-search-on-requires : tie.Need-search-on-requires
-search-on-requires c κs = search needs
+searching-requires : tie.Need-searching-requires
+searching-requires c κs = search needs
 
 add-t9 : tie.Need-add-t9
 add-t9 c = search needs
@@ -51,7 +51,7 @@ returns-2 c =
     let s = c .before .before .before in
     let p = s .before .before .before .before in
     let l : length (p .args .begun) ≡ 100 = search needs in
-    hold-frame _ _ _ _ l (p .pre .0) (p .pre .1) (p .pre .2) (s .before .before .if1 .left) _ (s .store2 .ensures) _ (c .before .read-frame .ensures) _ (c .search-on .ensures)
+    hold-frame _ _ _ _ l (p .pre .0) (p .pre .1) (p .pre .2) (s .before .before .if1 .left) _ (s .store2 .ensures) _ (c .before .read-frame .ensures) _ (c .searching .ensures)
 
 pub hold-spec : {M : Type 1} → statement M
 hold-spec =
@@ -65,7 +65,7 @@ hold-spec =
     store-requires-2
     slice-aggregate-read-frame
     read-frame-requires
-    array-read-search-on
-    search-on-requires
+    array-read-searching
+    searching-requires
     add-t9
     returns-2)

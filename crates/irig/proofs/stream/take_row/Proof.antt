@@ -47,8 +47,8 @@ returns-3 c =
     let l : length (p .args .stream .elements) ≡ 100 = length-unmapped ℕ (p .args .stream .elements) 100 (p .good .0 .1 .1 .0 .1 .0 .1) in
     take-second _ _ (sym (i .before .is-lawful .ensures) ∙ not-false _ (i .if1 .left)) (z .if2 .left) l _ (c .before .before .search .ensures) (c .before .if3 .taken) _ (c .begin .ensures)
 
-search-on-requires : tie.Need-search-on-requires
-search-on-requires c κs = search needs
+searching-requires : tie.Need-searching-requires
+searching-requires c κs = search needs
 
 returns-4 : tie.Need-returns-4
 returns-4 c =
@@ -56,7 +56,7 @@ returns-4 c =
     let i = z .before .before in
     let p = i .before .before .before in
     let l : length (p .args .stream .elements) ≡ 100 = length-unmapped ℕ (p .args .stream .elements) 100 (p .good .0 .1 .1 .0 .1 .0 .1) in
-    take-none _ _ (sym (i .before .is-lawful .ensures) ∙ not-false _ (i .if1 .left)) (z .if2 .left) l _ (c .before .before .search .ensures) (c .before .if3 .left) _ (c .search-on .ensures)
+    take-none _ _ (sym (i .before .is-lawful .ensures) ∙ not-false _ (i .if1 .left)) (z .if2 .left) l _ (c .before .before .search .ensures) (c .before .if3 .left) _ (c .searching .ensures)
 
 pub take-row-spec : {M : Type 1} → statement M
 take-row-spec =
@@ -69,5 +69,5 @@ take-row-spec =
     search-requires
     begin-requires
     returns-3
-    search-on-requires
+    searching-requires
     returns-4)

@@ -3,19 +3,19 @@
 use Prim.Native.Nat.{_-_, _≤_}
 use native.Mathlib.Omega.{arith}
 use borrow.Author.Needs.{needs}
-use Rattle.irig.proofs.table.Laws.{place-most}
+use Rattle.irig.proofs.table.Laws.{shift-most}
 use Rattle.irig.proofs.writing.Laws.{Put, put-none, put-more, put-all}
 use Rattle.irig.proofs.writing.put_elements.Statement.{statement}
 use Rattle.irig.proofs.writing.put_elements.Tie as tie
 
 abbrev Inv-loop : tie.InvT-loop
-Inv-loop number row₀ places i₀ row i = (i ≤ 100) × Put number row₀ row i
+Inv-loop number row₀ shifts i₀ row i = (i ≤ 100) × Put number row₀ row i
 
 abbrev μ-loop : tie.MeasureT-loop
-μ-loop number row₀ places i₀ row i = 100 - i
+μ-loop number row₀ shifts i₀ row i = 100 - i
 
-places-requires : tie.Need-places-requires Inv-loop μ-loop
-places-requires c κs = search needs
+shifts-requires : tie.Need-shifts-requires Inv-loop μ-loop
+shifts-requires c κs = search needs
 
 loop-holds : tie.Need-loop-holds Inv-loop μ-loop
 loop-holds c = (omega arith, put-none _ _)
@@ -24,7 +24,7 @@ array-read-element : tie.Need-array-read-element Inv-loop μ-loop
 array-read-element c = omega arith
 
 element-requires : tie.Need-element-requires Inv-loop μ-loop
-element-requires c κs = place-most _ (c .before .before .places .ensures) _ (omega arith)
+element-requires c κs = shift-most _ (c .before .before .shifts .ensures) _ (omega arith)
 
 slice-write-row : tie.Need-slice-write-row Inv-loop μ-loop
 slice-write-row c = omega (arith, c .before .before .loop .inv .1 .same, c .before .before .before .before .before .pre)
@@ -37,7 +37,7 @@ loop-less c = omega arith
 
 loop-again : tie.Need-loop-again Inv-loop μ-loop
 loop-again c =
-    (omega arith, put-more _ _ (c .before .before .before .before .before .pre) _ _ (c .before .before .loop .inv .1) (omega arith) _ (c .before .before .before .places .ensures) _ (c .element .ensures))
+    (omega arith, put-more _ _ (c .before .before .before .before .before .pre) _ _ (c .before .before .loop .inv .1) (omega arith) _ (c .before .before .before .shifts .ensures) _ (c .element .ensures))
 
 same-length : tie.Need-same-length Inv-loop μ-loop
 same-length c = c .before .loop .inv .1 .same
@@ -51,7 +51,7 @@ put-elements-spec =
     (tie.spec
     Inv-loop
     μ-loop
-    places-requires
+    shifts-requires
     loop-holds
     array-read-element
     element-requires

@@ -1,6 +1,6 @@
 -- Frames, of the calls: a row that reads is the row that is written for a card of what it reads as, and there are such cards. By the laws of frames and of a card's time.
 -- Assumes nothing.
-use Prim.Native.Nat.{ℕ, _≤_}
+use Prim.Native.Nat.{ℕ}
 use mathlib.Core.Path.{_≡_, refl, sym}
 use mathlib.Core.Bool.{true}
 use mathlib.Core.List.{List}
@@ -35,6 +35,6 @@ module _ (row : List ℕ) (n : readFrame row .number ≡ 0) (c : Card) (l : lawf
       record { proper = record { year = lit≤ tt; day-low = d .0; day-high = rw y (d .1); tick = writable-tick _ _ w }; year = lit≤ tt }
 
   -- a frame written for it into the row leaves the row as it is
-  pub written-then : (number (Call.frame row) then ≡ 0) × (left (Call.frame row) then ≡ row)
+  pub written-then : (number (Call.writeFrame row) then ≡ 0) × (left (Call.writeFrame row) then ≡ row)
   unfolding number left
   written-then = (writes then row then-lawful (read-long row n), write-back then row then-lawful n refl (sym (read-whole row n)))

@@ -2,7 +2,7 @@
 -- the cuts. By what comes of the elements one by one. Assumes nothing.
 use Prim.Native.Nat.{ℕ, zero, suc, _+_, _-_, _≤_, _<_}
 use mathlib.Core.Path.{_≡_, refl, sym, _∙_, ap, ap₂}
-use mathlib.Core.Bool.{Bool, true, false, _&&_, not}
+use mathlib.Core.Bool.{Bool, true, false, _&&_}
 use mathlib.Core.List.{List, [], _∷_, _++_, append-assoc, append-nil}
 use mathlib.Core.Logic.{⊎-elim}
 use native.Mathlib.Nat.{le-refl}
@@ -12,7 +12,6 @@ use lib.ListN.{length, getD, take, drop, set, replicate, length-drop, take-appen
 use lib.Seq.{length-take-le, drop-length, drop-drop}
 use borrow.Author.Tests.{lt-ltb, le-ltb, eqb-true}
 use Rattle.wire.specs.Digits.{pick}
-use Rattle.wire.specs.declared.words.TimeRead.{TimeRead}
 use Rattle.wire.proofs.digits.Laws.{lt-or-le, and-right, clash}
 use Rattle.irig.specs.declared.stream.Stream.{Stream}
 use Rattle.irig.specs.declared.stream.Finished.{Finished}
@@ -227,7 +226,7 @@ module _ (n : ℕ) (rec : (o a : ℕ) (es : List ℕ) → length es < n → foun
     left : length rest ≡ length es - k
     left = length-drop k es
 
-    begins : oneByOne (searching (eqb a 2)) es ≡ behind k (oneByOne (firstHeld) rest)
+    begins : oneByOne (searching (eqb a 2)) es ≡ behind k (oneByOne firstHeld rest)
     begins = search-finds es (eqb a 2) f
 
     too-short : length rest < 99 → foundEach (o + 1) (searching (eqb a 2)) es ≡ framesFrom (suc n) o (a ∷ es)
@@ -327,35 +326,3 @@ pub cuts-alike : (rows rows′ : List (List ℕ)) → takenAll rows freshStream 
     → (foundAll 0 rows freshStream ≡ foundAll 0 rows′ freshStream) × (afterAll rows freshStream ≡ afterAll rows′ freshStream)
 cuts-alike rows rows′ e =
     (run-finds rows ∙ ap frames e ∙ sym (run-finds rows′), run-after rows freshStream ∙ ap (afterEach freshStream) e ∙ sym (run-after rows′ freshStream))
-
--- A STREAM IN PARTS
-
-frame-is-something : (t : TimeRead) → _≡_ {A = Finished} (Finished.Frame t) Finished.Nothing → ⊥
-frame-is-something t e = let q : _≡_ {A = ℕ} 1 0 = ap (λ (f : Finished). length (foundBy 0 f)) e in omega arith
-
-some : (s : Stream) (e : ℕ) (es : List ℕ) → 1 ≤ oneByOne s (e ∷ es) .taken
-unfolding oneByOne
-some s e es = by (eqb (next s e .held) 100)
-  where
-    by : (t : Bool) → 1 ≤ pick t (frameEnds (next s e) e) (behind 1 (oneByOne (next s e) es)) .taken
-    by true = omega arith
-    by false = omega arith
-
-all-of : (row : List ℕ) (s : Stream) → oneByOne s row .finished ≡ Finished.Nothing → oneByOne s row .taken ≡ length row
-unfolding oneByOne
-all-of [] s f = refl
-all-of (e ∷ es) s f = by (eqb (next s e .held) 100) f (all-of es (next s e))
-  where
-    by : (t : Bool) → pick t (frameEnds (next s e) e) (behind 1 (oneByOne (next s e) es)) .finished ≡ Finished.Nothing
-        → (oneByOne (next s e) es .finished ≡ Finished.Nothing → oneByOne (next s e) es .taken ≡ length es)
-        → pick t (frameEnds (next s e) e) (behind 1 (oneByOne (next s e) es)) .taken ≡ suc (length es)
-    by true g r = absurd (frame-is-something (readFrame (next s e .elements)) g)
-    by false g r = let q = r g in omega arith
-
--- a call on a lawful record takes at least one element of a row that has one
-pub takes-some : (s : Stream) (e : ℕ) (es : List ℕ) → lawful s ≡ true → 1 ≤ takeRow s (e ∷ es) .taken
-takes-some s e es h = rw (sym (take-lawful s (e ∷ es) h)) (some s e es)
-
--- and all of it, if it finishes no frame
-pub takes-all : (s : Stream) (row : List ℕ) → lawful s ≡ true → takeRow s row .finished ≡ Finished.Nothing → takeRow s row .taken ≡ length row
-takes-all s row h f = ap (λ (t : RowTaken). t .taken) (sym (take-lawful s row h)) ∙ all-of row s (ap (λ (t : RowTaken). t .finished) (take-lawful s row h) ∙ f)
