@@ -3,9 +3,11 @@
 
     python3 tests/refusals.py            from the root of the repository
 
-Each number, through the call that gives it, beside calls that do not give it; and every way in which a card handed in can break a range, through every call.
+Each number, through the call that gives it, beside calls that do not give it; and every way in which a card handed in can break a range, through every call, and in which a
+stream's record can be torn.
 How a line is written, and the page's answers, are in script.py.
 """
+from irig import MARKER, changed, frame_of, record, stream_of
 from script import DAY, FORBIDDEN, OFFSETS, ZEROS, Script, in_words, read_words, write_packet, write_words
 
 
@@ -77,6 +79,25 @@ def alone(s):
         s.alone("read " + " ".join(f"{w:04X}" for w in words), "g", (0, *words), read_words(words))
     for wanted, values in ((399, (21, 0, 0, 0, 0)), (400, (0, 2, 2, 400, 0)), (429_483_622_500, (0, 65_535, 65_535, 429_483_622_500, 0)), (429_483_622_501, (21, 0, 0, 0, 0))):
         s.alone(f"nearest pair to {wanted} ns", "c", (wanted,), values)
+
+
+def frames(s):
+    s.fresh()
+    for places in (0, 99, 100, 101, 104):
+        s.call("", "W", places)
+    s.time(2004, 366, DAY - 1)
+    s.call("", "W", 100)
+    noon = frame_of(1, 12, 0, 0)
+    for words, row in (("of 99 elements", noon[:99]), ("of 100", noon), ("of 101", noon + [3]),
+                       ("without its first marker", changed(noon, {0: 0})), ("without its last", changed(noon, {99: 1})), ("with a marker at 1", changed(noon, {1: MARKER})),
+                       ("with a marker at 98", changed(noon, {98: MARKER})), ("with 3 at 9", changed(noon, {9: 3})), ("with 255 at 50", changed(noon, {50: 255})),
+                       ("with 1 at 5", changed(noon, {5: 1})), ("with 1 at 98", changed(noon, {98: 1})), ("with 1 at 97, no spare one", changed(noon, {97: 1})),
+                       ("of second 10 in one digit", frame_of(1, 12, 0, (10, 0), 43_210)), ("of second 9", frame_of(1, 12, 0, 9)), ("of a day with 15 tens", frame_of((0, 15, 0), 12, 0, 0)),
+                       ("of second 59", frame_of(1, 12, 0, 59)), ("of second 60", frame_of(1, 12, 0, 60)), ("of minute 59", frame_of(1, 12, 59, 0)), ("of minute 60", frame_of(1, 12, 60, 0)),
+                       ("of hour 23", frame_of(1, 23, 0, 0)), ("of hour 24", frame_of(1, 24, 0, 0)), ("of day 0", frame_of(0, 12, 0, 0)), ("of day 366", frame_of(366, 12, 0, 0)),
+                       ("of day 367", frame_of(367, 12, 0, 0)), ("with 43199 binary seconds", frame_of(1, 12, 0, 0, 43_199)), ("with 43201", frame_of(1, 12, 0, 0, 43_201)),
+                       ("of midnight with 86400", frame_of(1, 0, 0, 0, 86_400)), ("of midnight", frame_of(1, 0, 0, 0)), ("of the last second", frame_of(366, 23, 59, 59))):
+        s.read(f"read a frame {words}", row)
 
 
 def refused(s, *call):
@@ -189,7 +210,7 @@ SOUND = (
 def cards(s):
     """Each torn card through every call, most with arguments that a lawful card would refuse by another number; nothing of the card changes."""
     calls = (("r", 99), ("w", 99, 0), ("w", 12, 0x81), ("w", 13, 1), ("b", 0, 1, 1), ("b", 65, 1, 1), ("e", 0), ("l",), ("x",), ("p", 4), ("o", 4, 0, 0, 0, 0),
-             ("t", 0, 0, 0, 0, 0), ("d", 1, 1), ("q",), ("s", 1000), ("a", 24, 0, 0, 0), ("z",), ("n", 0, DAY + 1), ("i", 0, DAY + 1))
+             ("t", 0, 0, 0, 0, 0), ("d", 1, 1), ("q",), ("s", 1000), ("a", 24, 0, 0, 0), ("z",), ("n", 0, DAY + 1), ("i", 0, DAY + 1), ("W", 99))
     for words, put, values in TORN:
         s.fresh()
         put(s, *values)
@@ -204,8 +225,47 @@ def cards(s):
         s.call(f"{words}, taken", "r", 11)
 
 
+# every way to tear a stream's record: what is said, and the record
+TORN_STREAMS = (
+    ("an element, none held", record(0, 0, 1)),
+    ("a marker, none held", record(0, 0, MARKER)),
+    ("an element in the last place, none held", record(0, 0, *[0] * 99, 1)),
+    ("an element behind a marker, none held", record(0, 1, 0, 1)),
+    ("one held that is 0", record(1, 0, 0)),
+    ("one held that is 3", record(1, 0, 3)),
+    ("99 held, the first 1", record(99, 0, 1, *[0] * 98)),
+    ("one held, and marked", record(1, 1, MARKER)),
+    ("99 held, and marked", record(99, 1, MARKER)),
+    ("100 held", record(100, 0, MARKER)),
+    ("101 held", record(101, 0, MARKER)),
+    ("9999999999999 held", record(9_999_999_999_999, 0, MARKER)),
+    ("an element behind one held", record(1, 0, MARKER, 1)),
+    ("an element in the last place, behind 99 held", record(99, 0, MARKER, *[0] * 98, 255)),
+    ("four elements of 64 behind one held", record(1, 0, MARKER, 64, 64, 64, 64)),
+)
+# the nearest records that calls leave
+SOUND_STREAMS = (
+    ("none held", record(0, 0)),
+    ("none held, and marked", record(0, 1)),
+    ("one held", record(1, 0, MARKER)),
+    ("99 held", record(99, 0, MARKER, *[255] * 98)),
+)
+
+
+def streams(s):
+    """A torn record is refused whatever the row, and comes back as it was."""
+    for words, torn in TORN_STREAMS:
+        assert stream_of(torn) is None
+        s.lawful(f"{words}, lawful", torn)
+        for row in ((), (MARKER, MARKER, 0)):
+            s.take(f"{words}, takes {len(row)}", torn, row)
+    for words, sound in SOUND_STREAMS:
+        s.lawful(f"{words}, lawful", sound)
+        s.take(f"{words}, takes 3", sound, (MARKER, MARKER, 0))
+
+
 if __name__ == "__main__":
     s = Script()
-    for part in (registers, packets, alone, setting, waiting, saving, cards):
+    for part in (registers, packets, alone, frames, setting, waiting, saving, cards, streams):
         part(s)
     s.write_files("refusals")

@@ -1,4 +1,4 @@
-"""How a script is written, and what the page says of each of its lines: used by refusals.py, registers.py, blocks.py, waits.py, times.py and periods.py.
+"""How a script is written, and what the page says of each of its lines: used by refusals.py, registers.py, blocks.py, waits.py, times.py, periods.py and elements.py.
 
 A line is what is to be said, a bar, and a call: a letter and decimal numbers. A line with no call is only said. Some calls only change the card, and say nothing:
 
@@ -12,10 +12,15 @@ Behind the others stand their number and what else they give back:
     t YEAR DAY HOUR MINUTE SECOND   d N1 N2   q periodic off   s MS   a HOUR MINUTE SECOND MS   z strobe off   n PLACES TICKS (wait)
     i PLACES TICKS (wait in place)   f DAY TICK   g 0 and five words   A PLACES MODE   G PLACES OFFSET   H PLACES FORMAT MODULATION
     J PLACES (I with E)   K PLACES (K with H)   c WANTED (the nearest pair)   u HIGH LOW (the same, to HIGH x 4294967296 + LOW)   v what stands in the card
+    W PLACES (the card's frame)   m PLACE ELEMENT (the card's frame with another element, read)   R ROW (a frame read)   Y HELD MARKED PLACES ROW (a stream takes a row)
+    y HELD MARKED PLACES (whether the stream is lawful)
 
 Formats are A, B, C, N, X as 0 to 4; modulation D, clock external and generator H are 1; an offset is its place in OFFSETS. The bytes of a block are FIRST and
-each one STEP more than the one before, from 0 on again behind 255; there are at most 80. Lent places, ten for a wait and twelve for
-bytes, hold 7 before. A card is shown as year, day and tick; strobe, 0 or its kind and milliseconds; periodic, 0 or n1, n2 and count; mask, pending, level, vector;
+each one STEP more than the one before, from 0 on again behind 255; there are at most 80. Lent places, ten for a wait, twelve for
+bytes and 104 for a frame, hold 7 before. The elements of a row, and the places of a stream's record, stand without spaces, each as the character whose code is 48
+more, so that 0 to 9 are their digits and / is 255; a record has zeros behind the places that a line has. Behind the number that a row gives stand how many elements were
+taken; 0, or 1 and the frame's number, day and tick; and the record afterwards. A card is shown as year, day and tick; strobe, 0 or its kind and milliseconds;
+periodic, 0 or n1, n2 and count; mask, pending, level, vector;
 CONTROL and the event latch; the time latch; mode, format, modulation, clock, generator, minus, size of the offset; done; the queue's fill; and each of its 64 bytes that
 is not 0, as place:byte.
 
@@ -26,6 +31,7 @@ import calendar
 import functools
 from datetime import date, timedelta
 
+from irig import ELEMENTS, frame_at, read_frame, stream_of, take_row
 from listing import answer
 
 DAY = 864_000_000_000
@@ -34,7 +40,7 @@ MILLISECOND = 10_000
 OFFSETS = (0, 25_000, 9_999_999, -9_999_999, 10_000_000, -10_000_000, 2_147_483_647, -2_000_000_000)
 FORBIDDEN = ((0, 0), (2, 1), (4, 1))        # A with M, C with D, X with D
 ZEROS = (0, 0, 0, 0, 0)
-WAIT_PLACES, BYTE_PLACES, UNTOUCHED = 10, 12, 7
+WAIT_PLACES, BYTE_PLACES, FRAME_PLACES, UNTOUCHED = 10, 12, 104, 7
 
 
 def days_in(year):
@@ -76,6 +82,13 @@ def write_packet(places, text, number):
     if number:
         return (number, 0, *row)
     return (0, len(packet), *packet, *row[len(packet):])
+
+
+def elements(row):
+    """A row of elements as a line has them; a space, a bar or the end of a line can't be among them."""
+    text = "".join(chr((element + 48) % 256) for element in row)
+    assert text.isascii() and not set(text) & set(" |\n")
+    return text
 
 
 @functools.cache
@@ -243,6 +256,14 @@ class Card:
         self.offset = -size if minus else size
         return (0,)
 
+    # frames
+
+    def frame(self, places):
+        row = [UNTOUCHED] * FRAME_PLACES
+        if places < ELEMENTS:
+            return 14, elements(row)
+        return 0, elements(frame_at(*self.time[1:]) + row[ELEMENTS:])
+
     # time, strobe, periodic output
 
     def set_time(self, year, day, hour, minute, second):
@@ -328,6 +349,7 @@ CALLS = {
     "z": (Card.no_strobe, (), "strobe off"),
     "n": (Card.wait, BESIDE_WAIT, "wait {1}, {0} places"),
     "i": (Card.wait, BESIDE_WAIT, "wait in place {1}, {0} places"),
+    "W": (Card.frame, (elements([UNTOUCHED] * FRAME_PLACES),), "frame into {} places"),
 }
 
 
@@ -413,6 +435,30 @@ class Script:
     def alone(self, words, letter, numbers, values):
         self.ask(words + ":", letter, *numbers)
         self.tell(words + ":", values)
+
+    # frames, and a stream's rows
+
+    def read(self, words, row):
+        self.alone(words, "R", (elements(row),), read_frame(row))
+
+    def change(self, place, element):
+        """Of a lawful card: its frame with another element, read."""
+        assert self.card.lawful()
+        row = frame_at(*self.card.time[1:]) + [UNTOUCHED] * (FRAME_PLACES - ELEMENTS)
+        row[place] = element
+        self.alone(f"{element} at {place}", "m", (place, element), read_frame(row))
+
+    def take(self, words, record, row):
+        """The record afterwards is handed on."""
+        held, marked, places = record
+        number, taken, read, after = take_row(record, row)
+        finished = (1, *read) if read else (0,)
+        self.alone(words, "Y", (held, marked, elements(places).rstrip("0"), elements(row)), (number, taken, *finished, *after[:2], elements(after[2])))
+        return after
+
+    def lawful(self, words, record):
+        held, marked, places = record
+        self.alone(words, "y", (held, marked, elements(places).rstrip("0")), (int(stream_of(record) is not None),))
 
     def write_files(self, program):
         """The program reads its input in one piece."""

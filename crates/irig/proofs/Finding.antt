@@ -106,6 +106,10 @@ take-agrees o s row = go (lawful s) refl
     go true h = rw (sym (take-lawful s row h)) (one-agrees row o s)
     go false h = rw (sym (take-18 s row h)) (none-agrees o s row 18)
 
+-- a call takes no more than its row has
+pub taken-within : (s : Stream) (row : List ℕ) (t : RowTaken) → t ≡ takeRow s row → t .taken ≤ length row
+taken-within s row t e = rw e (take-agrees 0 s row .within)
+
 -- A RUN OF CALLS
 
 pub run-after : (rows : List (List ℕ)) (s : Stream) → afterAll rows s ≡ afterEach s (takenAll rows s)

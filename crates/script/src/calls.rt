@@ -5,6 +5,8 @@ use crate::cards::five_at;
 use crate::cards::format_of;
 use crate::cards::modulation_of;
 use crate::cards::offset_of;
+use crate::frames::called_frame;
+use crate::frames::put_read;
 use card::blocks::write_block;
 use card::card::Answer;
 use card::card::Card;
@@ -181,13 +183,6 @@ fn told_words(day: u16, tick: Ticks) {
     put_words(words);
 }
 
-fn told_reading_of(words: [u16; 5]) {
-    let t = read_words(words);
-    put_byte(t.number);
-    put_short(t.day);
-    put(t.tick.ticks);
-}
-
 fn told_nearest(found: Found) {
     put_byte(found.number);
     let pair = found.pair;
@@ -211,7 +206,7 @@ fn packet_of(call: u8, text: &[u8]) -> Packet {
 fn called_alone(call: u8, text: &[u8]) {
     match call {
         b'f' => told_words(short_at(text, 1), ticks_at(text, 2)),
-        b'g' => told_reading_of(five_at(text)),
+        b'g' => put_read(read_words(five_at(text))),
         b'c' => told_nearest(nearest_pair(number_at(text, 1))),
         b'u' => told_nearest(nearest_pair(wide_at(text, 1, 2))),
         _ => told_packet(packet_of(call, text), count_at(text, 12)),
@@ -250,6 +245,10 @@ pub(crate) fn called(call: u8, card: Card, text: &[u8]) -> Card {
     match call {
         b'A' | b'G' | b'H' | b'J' | b'K' | b'f' | b'g' | b'c' | b'u' => {
             called_alone(call, text);
+            card
+        }
+        b'W' | b'm' | b'R' | b'Y' | b'y' => {
+            called_frame(call, card, text);
             card
         }
         b'v' => {

@@ -26,7 +26,7 @@ ghost use Prim.Native.Nat.{_≤_};
 pub(crate) fn count_at(text: &[u8], most: usize) -> usize
     ensures { λ r. ⌜ r ≤ most ⌝ }
 {
-    let n = (number_at(text, 1) % 100) as usize;
+    let n = (number_at(text, 1) % 1_000) as usize;
     if n < most { n } else { most }
 }
 

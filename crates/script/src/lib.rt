@@ -5,6 +5,8 @@
 // script ends; what the calls do is proved of the calls.
 mod calls;
 mod cards;
+mod elements;
+mod frames;
 
 use crate::calls::called;
 use card::card::Card;
