@@ -4,15 +4,15 @@
 use Prim.Native.Nat.{ℕ, _/_, _%_, _^_, _≤_, _<_}
 use mathlib.Core.Path.{_≡_, refl, sym, _∙_, ap, ap₂}
 use mathlib.Core.Bool.{true, not}
-use mathlib.Core.List.{List, [], _∷_, _++_, map}
+use mathlib.Core.List.{List, [], _++_, map}
 use native.Mathlib.Nat.{mod-lt}
 use native.Mathlib.Omega.{arith}
 use lib.Dec.{ltb, eqb, lit<}
-use lib.ListN.{length, getD, take, drop, replicate, length-append, take-append-drop, List·getD-append}
+use lib.ListN.{length, getD, take, drop, length-append, take-append-drop, List·getD-append}
 use lib.Seq.{ext-getD, getD-take, length-take-le, take-at}
 use borrow.Author.Tests.{ltb-false, eqb-true, lt-ltb, le-ltb, eq-eqb, not-false}
 use Rattle.wire.specs.Digits.{pick, digits}
-use Rattle.wire.specs.Time.{fractionOf, wholeSeconds, withoutFraction}
+use Rattle.wire.specs.Time.{wholeSeconds, withoutFraction}
 use Rattle.wire.specs.Words.{timeDigits, writable, decimal, dayIn, tickIn, timeRead}
 use Rattle.wire.specs.declared.words.TimeRead.{TimeRead}
 use Rattle.wire.proofs.numbers.Laws.{given-zero, quiet-first}
@@ -23,9 +23,10 @@ use Rattle.card.specs.declared.card.Card.{Card}
 use Rattle.card.specs.Lawful.{lawful}
 use Rattle.irig.specs.Table.{Field, Element, table, at, digitOf}
 use Rattle.irig.specs.Writing.{fieldOf, elementOf, frameOf, writeRefusal, rowWritten}
-use Rattle.irig.specs.Reading.{fits, allFit, clear, sparesClear, fieldIn, digitsIn, digitsInRange, readLines, readRefusal, readFrame}
+use Rattle.irig.specs.Reading.{fits, allFit, clear, sparesClear, fieldIn, digitsOf, digitsIn, digitsInRange, readLines, readRefusal, readFrame}
 use Rattle.irig.proofs.table.Laws.{all-at, all-of, at-place, hundred-of, field-of, fit-at, bit-back}
 use Rattle.irig.proofs.Numbers.{read-number}
+use Rattle.irig.proofs.reading.Hundred.{digits-alike}
 use Rattle.irig.proofs.reading.Laws.{no-fraction}
 use Rattle.irig.proofs.writing.Laws.{digit, field-is, field-within, time-writable}
 
@@ -51,6 +52,11 @@ unfolding clear elementOf
 element-clear v Element.marker = refl
 element-clear v Element.spare = refl
 element-clear v (Element.bit f i) = refl
+
+-- the digits of a time without its fraction
+plain-digits : (day tick : ℕ) → digitsOf (digit day tick) ≡ timeDigits day (withoutFraction tick)
+unfolding digitsOf digits
+plain-digits day tick = cc (hour-whole tick, minute-whole tick, second-whole tick, fraction-whole tick, time-digits day (withoutFraction tick))
 
 -- WRITTEN, THEN READ
 
@@ -78,30 +84,9 @@ module _ (day tick : ℕ) (w : writable day tick ≡ true) (rest : List ℕ) whe
   whole-writable : writable day (withoutFraction tick) ≡ true
   whole-writable = let d = writable-day day tick w in let t = writable-tick day tick w in in-ranges day (withoutFraction tick) (d .0) (d .1) (omega arith)
 
-  zeros-behind : digits 10 7 (fractionOf (withoutFraction tick)) ++ (0 ∷ []) ≡ replicate 8 0
-  unfolding digits
-  zeros-behind = ap (λ (x : ℕ). digits 10 7 x ++ (0 ∷ [])) (fraction-whole tick)
-
   -- its digits are those of the time without the fraction
   digits-back : digitsIn row ≡ timeDigits day (withoutFraction tick)
-  unfolding digitsIn
-  digits-back =
-      cc (
-        field-back Field.dayHundreds,
-        field-back Field.dayTens,
-        field-back Field.dayUnits,
-        field-back Field.hourTens,
-        field-back Field.hourUnits,
-        field-back Field.minuteTens,
-        field-back Field.minuteUnits,
-        field-back Field.secondTens,
-        field-back Field.secondUnits,
-        hour-whole tick,
-        minute-whole tick,
-        second-whole tick,
-        zeros-behind,
-        time-digits day (withoutFraction tick),
-      )
+  digits-back = digits-alike (fieldIn row) (digit day tick) field-back ∙ plain-digits day tick
 
   seconds-back : fieldIn row Field.binarySeconds ≡ wholeSeconds (withoutFraction tick)
   seconds-back = field-back Field.binarySeconds ∙ (let q : tick / 10000000 ≡ withoutFraction tick / 10000000 = omega arith in q)
@@ -158,7 +143,7 @@ passed row n =
     }
 
 twenty : (row : List ℕ) → length (digitsIn row) ≡ 20
-unfolding digitsIn
+unfolding digitsOf
 twenty row = refl
 
 module _ (row : List ℕ) (n : readFrame row .number ≡ 0) where
@@ -186,7 +171,7 @@ module _ (row : List ℕ) (n : readFrame row .number ≡ 0) where
 
   -- the fields of what is read are the frame's
   digit-again : (f : Field) → digit day tick f ≡ fieldIn row f
-  unfolding digitsIn
+  unfolding digitsOf
   digit-again Field.secondUnits = ap (λ (l : List ℕ). getD l 11 0) (sym (time-digits day tick) ∙ again)
   digit-again Field.secondTens = ap (λ (l : List ℕ). getD l 10 0) (sym (time-digits day tick) ∙ again)
   digit-again Field.minuteUnits = ap (λ (l : List ℕ). getD l 9 0) (sym (time-digits day tick) ∙ again)

@@ -44,12 +44,15 @@ share f (Element.bit g i) e = pick (same f g) (e * 2 ^ i) 0
 unfoldable pub fieldIn : List ℕ → Field → ℕ
 fieldIn row f = sumTo 100 (λ (j : ℕ). share f (at j) (getD row j 0))
 
--- its digits as those of time words, with no fraction
-unfoldable pub digitsIn : List ℕ → List ℕ
-digitsIn row =
-    0 ∷ 0 ∷ 0 ∷ fieldIn row Field.dayHundreds ∷ fieldIn row Field.dayTens ∷ fieldIn row Field.dayUnits
-    ∷ fieldIn row Field.hourTens ∷ fieldIn row Field.hourUnits ∷ fieldIn row Field.minuteTens ∷ fieldIn row Field.minuteUnits
-    ∷ fieldIn row Field.secondTens ∷ fieldIn row Field.secondUnits ∷ replicate 8 0
+-- decimal digits as time words have them, with no fraction
+unfoldable pub digitsOf : (Field → ℕ) → List ℕ
+digitsOf fields =
+    0 ∷ 0 ∷ 0 ∷ fields Field.dayHundreds ∷ fields Field.dayTens ∷ fields Field.dayUnits ∷ fields Field.hourTens ∷ fields Field.hourUnits
+    ∷ fields Field.minuteTens ∷ fields Field.minuteUnits ∷ fields Field.secondTens ∷ fields Field.secondUnits ∷ replicate 8 0
+
+-- those of a frame
+abbrev pub digitsIn : List ℕ → List ℕ
+digitsIn row = digitsOf (fieldIn row)
 
 -- the ranges of time words
 abbrev pub digitsInRange : List ℕ → Bool

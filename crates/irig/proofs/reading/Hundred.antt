@@ -7,8 +7,24 @@ use lib.ListN.{length, getD, take}
 use lib.Seq.{getD-take, length-take-le}
 use borrow.Author.Tests.{le-ltb}
 use Rattle.irig.specs.Table.{Field, at}
-use Rattle.irig.specs.Reading.{fits, allFit, clear, sparesClear, share, fieldIn, digitsIn, readRefusal, readFrame}
+use Rattle.irig.specs.Reading.{fits, allFit, clear, sparesClear, share, fieldIn, digitsOf, digitsIn, readRefusal, readFrame}
 use Rattle.irig.proofs.table.Laws.{sum-same, all-same}
+
+-- the same fields have the same digits
+pub digits-alike : (v w : Field → ℕ) → ((f : Field) → v f ≡ w f) → digitsOf v ≡ digitsOf w
+unfolding digitsOf
+digits-alike v w e =
+    cc (
+      e Field.dayHundreds,
+      e Field.dayTens,
+      e Field.dayUnits,
+      e Field.hourTens,
+      e Field.hourUnits,
+      e Field.minuteTens,
+      e Field.minuteUnits,
+      e Field.secondTens,
+      e Field.secondUnits,
+    )
 
 -- two rows with the same hundred elements in front
 module _ (a b : List ℕ) (l : 100 ≤ length a) (m : 100 ≤ length b) (e : (j : ℕ) → j < 100 → getD a j 0 ≡ getD b j 0) where
@@ -25,19 +41,7 @@ module _ (a b : List ℕ) (l : 100 ≤ length a) (m : 100 ≤ length b) (e : (j 
   same-field f = sum-same 100 (λ (j : ℕ). share f (at j) (getD a j 0)) (λ (j : ℕ). share f (at j) (getD b j 0)) (λ j k. ap (share f (at j)) (e j k))
 
   same-digits : digitsIn a ≡ digitsIn b
-  unfolding digitsIn
-  same-digits =
-      cc (
-        same-field Field.dayHundreds,
-        same-field Field.dayTens,
-        same-field Field.dayUnits,
-        same-field Field.hourTens,
-        same-field Field.hourUnits,
-        same-field Field.minuteTens,
-        same-field Field.minuteUnits,
-        same-field Field.secondTens,
-        same-field Field.secondUnits,
-      )
+  same-digits = digits-alike (fieldIn a) (fieldIn b) same-field
 
   same-refusal : readRefusal a ≡ readRefusal b
   unfolding readRefusal

@@ -20,7 +20,7 @@ use Rattle.wire.proofs.digits.Laws.{unpack-packed, and-true, lt-or-le, clash}
 use Rattle.wire.proofs.words.Laws.{read-by-digits, read-bad, read-outside, read-done, whole-second}
 use Rattle.irig.specs.declared.reading.Summed.{Summed}
 use Rattle.irig.specs.Table.{Field, Element, fieldNumber, table, at, sumTo, allTo, fieldShift, shiftOf}
-use Rattle.irig.specs.Reading.{fits, allFit, clear, sparesClear, share, fieldIn, digitsIn, digitsInRange, readRefusal, readFrame, weighed, weighedTo, scanned, wordsIn}
+use Rattle.irig.specs.Reading.{fits, allFit, clear, sparesClear, share, fieldIn, digitsOf, digitsIn, digitsInRange, readRefusal, readFrame, weighed, weighedTo, scanned, wordsIn}
 use Rattle.irig.proofs.table.Laws.{shift-is, fit-at, fieldTo, field-whole, field-small, bit-low, together, bounds, together-small}
 
 -- ALL FIELDS TOGETHER
@@ -127,7 +127,7 @@ module _ (row : List ℕ) where
       fields-alone = let n = number-is in omega arith
 
       digits-small : below 16 (digitsIn row) ≡ true
-      unfolding below digitsIn
+      unfolding below digitsOf
       digits-small =
           let b = bounds (fieldIn row) (field-small row h) in
           simp (
@@ -156,13 +156,13 @@ module _ (row : List ℕ) where
       minutes-packed = let b = bounds (fieldIn row) (field-small row h) in let n = fields-alone in omega arith
 
       words-packed : wordsIn (weighedTo row 100) ≡ packed 16 4 5 (digitsIn row)
-      unfolding wordsIn packed digitsIn num
+      unfolding wordsIn packed digitsOf num
       words-packed =
           three hundreds-packed days-packed minutes-packed
 
       -- the digits in the number are the frame's
       pub digits-read : readWords (wordsIn (weighedTo row 100)) ≡ readDigits (digitsIn row)
-      unfolding digitsIn
+      unfolding digitsOf
       digits-read =
           read-by-digits (wordsIn (weighedTo row 100))
           ∙ ap (λ (ws : List ℕ). readDigits (unpacked 16 4 ws)) words-packed
@@ -310,7 +310,7 @@ scan-all row n i e s =
 
 -- there is no fraction
 pub no-fraction : (row : List ℕ) → tickIn (digitsIn row) ≡ withoutFraction (tickIn (digitsIn row))
-unfolding digitsIn
+unfolding digitsOf
 no-fraction row = whole-second (digitsIn row) refl
 
 module _ (row : List ℕ) where
