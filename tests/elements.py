@@ -142,6 +142,10 @@ def rows(s):
     for last in (0, 1, 3, 255):
         left = s.take("row", record(99, 0, *frame[:99]), [last, MARKER, MARKER])
         s.take("then", left, [MARKER, MARKER])
+    s.say("A frame that ends in a marker and 0, over a cut and whole in its row")
+    for stream, row in ((record(99, 0, *frame[:98], MARKER), [0]), (FRESH, [MARKER, *changed(frame, {98: MARKER, 99: 0})])):
+        left = s.take("row", stream, row)
+        s.take("then", left, [MARKER, 0])
     s.say("Three markers in a row: the frame begins at the second")
     left = s.take("row", FRESH, [MARKER, MARKER, *frame])
     s.take("then", left, other)

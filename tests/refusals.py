@@ -239,6 +239,8 @@ TORN_STREAMS = (
     ("100 held", record(100, 0, MARKER)),
     ("101 held", record(101, 0, MARKER)),
     ("9999999999999 held", record(9_999_999_999_999, 0, MARKER)),
+    ("none held but for bit 32", record(2 ** 32, 0)),
+    ("one held but for bit 32", record(2 ** 32 + 1, 0, MARKER)),
     ("an element behind one held", record(1, 0, MARKER, 1)),
     ("an element in the last place, behind 99 held", record(99, 0, MARKER, *[0] * 98, 255)),
     ("four elements of 64 behind one held", record(1, 0, MARKER, 64, 64, 64, 64)),

@@ -3,9 +3,10 @@
 //
 // What is proved of the frames is proved of `irig::stream`, for every input and however it comes. No contract can say what is read or written, so here it is proved only that
 // nothing goes wrong and that the program ends.
-use cases::writing::put;
-use cases::writing::put_byte;
-use cases::writing::put_short;
+mod lines;
+
+use crate::lines::LINE;
+use crate::lines::put_line;
 use irig::stream::Finished;
 use irig::stream::Stream;
 use irig::stream::fresh_stream;
@@ -13,9 +14,8 @@ use irig::stream::take_row;
 use libc::STDIN_FILENO;
 use libc::STDOUT_FILENO;
 use std::num::wrapping_add_u64;
-use std::num::wrapping_sub_u64;
-use wire::numbers;
-use wire::words::TimeRead;
+ghost use Prim.Native.Nat.{_+_, _≤_};
+ghost use lib.ListN.{length};
 
 // The stream after a part of the input, how many elements were taken of the whole input, and whether to go on. 64 bits count more elements than any input has; behind so many
 // the count would begin again at 0.
@@ -25,54 +25,85 @@ struct Kept {
     going: bool,
 }
 
-// A frame is the last hundred of the elements that were taken.
-fn put_frame(taken: u64, time: TimeRead) {
-    io::print_decimal(STDOUT_FILENO, wrapping_sub_u64(taken, 100));
-    put_byte(time.number);
-    if time.number == numbers::DONE {
-        put_short(time.day);
-        put(time.tick.ticks);
-    }
-    io::write_all(STDOUT_FILENO, b"\n");
+// How many bytes of lines a row holds, and whether all that was to be written could be.
+struct Filled {
+    fill: usize,
+    whole: bool,
 }
 
-fn put_finished(taken: u64, finished: Finished) {
+// The line of a frame, if one was finished. Answers the place behind it.
+fn put_finished(taken: u64, finished: Finished, row: &mut [u8], at: usize) -> usize
+    requires { ⌜ at + 84 ≤ length (now row) ⌝ }
+    ensures { λ r. ⌜ r ≤ at + 84 ⌝ }
+{
     match finished {
-        Finished::Nothing => {}
-        Finished::Frame(time) => put_frame(taken, time),
+        Finished::Nothing => at,
+        Finished::Frame(time) => put_line(taken, time, row, at),
     }
 }
 
-// Takes a part of the input, frame by frame. No call takes nothing of a row that has elements; one that did would be the end.
-fn take_part(kept: Kept, part: &[u8]) -> Kept {
+// Writes the first bytes of a row, and answers whether that could be done.
+fn write_front(row: &[u8], n: usize) -> bool
+    requires { ⌜ n ≤ length (now row) ⌝ }
+{
+    let from: usize = 0;
+    io::write_all(STDOUT_FILENO, &row[from..n])
+}
+
+// The line of a frame, if one was finished. If the row then has no room for one more, its lines are written out.
+fn put_out(taken: u64, finished: Finished, row: &mut [u8], fill: usize) -> Filled
+    requires { ⌜ fill + 84 ≤ length (now row) ⌝ }
+    ensures { λ r. ⌜ r .fill + 84 ≤ length (now (row .entry)) ⌝ }
+{
+    let at = put_finished(taken, finished, row, fill);
+    if LINE <= row.len() - at {
+        return Filled {
+            fill: at,
+            whole: true,
+        };
+    }
+    Filled {
+        fill: 0,
+        whole: write_front(row, at),
+    }
+}
+
+// Takes a part of the input, frame by frame, and writes its lines out. No call takes nothing of a row that has elements; one that did would be the end.
+fn take_part(kept: Kept, part: &[u8], row: &mut [u8]) -> Kept
+    requires { ⌜ 84 ≤ length (now row) ⌝ }
+{
     let mut stream = kept.stream;
     let mut taken = kept.taken;
     let mut from: usize = 0;
+    let mut fill: usize = 0;
     while from < part.len() {
-        let row = take_row(stream, &part[from..]);
-        let next = row.stream;
+        let t = take_row(stream, &part[from..]);
+        let next = t.stream;
         stream = next;
-        if row.taken == 0 {
+        from += t.taken;
+        taken = wrapping_add_u64(taken, t.taken as u64);
+        let finished = t.finished;
+        let filled = put_out(taken, finished, row, fill);
+        fill = filled.fill;
+        if (t.taken == 0) | !filled.whole {
             return Kept {
                 stream: stream,
                 taken: taken,
                 going: false,
             };
         }
-        taken = wrapping_add_u64(taken, row.taken as u64);
-        let finished = row.finished;
-        put_finished(taken, finished);
-        from += row.taken;
     }
     Kept {
         stream: stream,
         taken: taken,
-        going: true,
+        going: write_front(row, fill),
     }
 }
 
 // Reads once, and takes what came. A read that fails or gives nothing is the end.
-fn take_some(kept: Kept, input: &mut [u8]) -> Kept {
+fn take_some(kept: Kept, input: &mut [u8], row: &mut [u8]) -> Kept
+    requires { ⌜ 84 ≤ length (now row) ⌝ }
+{
     let got = libc::read(STDIN_FILENO, input);
     if got <= 0 {
         let stream = kept.stream;
@@ -84,11 +115,13 @@ fn take_some(kept: Kept, input: &mut [u8]) -> Kept {
     }
     let n = io::count(got, input);
     let from: usize = 0;
-    take_part(kept, &input[from..n])
+    take_part(kept, &input[from..n], row)
 }
 
 // Takes all of the input. Nothing says that an input ends, so the loop counts its turns down, from a number that no run uses up.
-fn run(input: &mut [u8]) {
+fn run(input: &mut [u8], row: &mut [u8])
+    requires { ⌜ 84 ≤ length (now row) ⌝ }
+{
     let mut kept = Kept {
         stream: fresh_stream(),
         taken: 0,
@@ -96,7 +129,7 @@ fn run(input: &mut [u8]) {
     };
     let mut turns = u64::MAX;
     while 0 < turns {
-        kept = take_some(kept, input);
+        kept = take_some(kept, input, row);
         turns -= 1;
         if !kept.going {
             turns = 0;
@@ -106,5 +139,6 @@ fn run(input: &mut [u8]) {
 
 fn main() {
     let mut input = io::large_buffer();
-    run(&mut input);
+    let mut row = io::large_buffer();
+    run(&mut input, &mut row);
 }

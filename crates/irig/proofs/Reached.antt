@@ -11,11 +11,11 @@ use lib.ListN.{length, getD, take, drop, set, replicate, length-set, length-drop
 use lib.Seq.{drop-set-lt, drop-drop, getD-set-other, length-take-le, take-length, paste}
 use borrow.Author.Tests.{lt-ltb, eqb-true, eqb-false, eq-eqb, ne-eqb}
 use Rattle.wire.specs.Digits.{pick, below}
-use Rattle.wire.proofs.digits.Laws.{below-drop, zeros, zeros-below, lt-or-le}
+use Rattle.wire.proofs.digits.Laws.{below-take, below-drop, zeros, zeros-below, lt-or-le}
 use Rattle.irig.specs.declared.stream.Stream.{Stream}
 use Rattle.irig.specs.declared.stream.RowTaken.{RowTaken}
 use Rattle.irig.specs.Streams.{searching, freshStream, lawful, behind, oneByOne, takeRow}
-use Rattle.irig.specs.Finding.{afterAll, takenAll, handed, Left, way}
+use Rattle.irig.specs.Finding.{afterAll, takenAll, ofBytes, Left, way}
 use Rattle.irig.proofs.stream.Laws.{begun, next-held, next-search, next-second, step-search, step-second, held-short, take-lawful, Begun, lawful-begun, lawful-searching}
 use Rattle.irig.proofs.Finding.{step, afterEach, run-after}
 
@@ -158,10 +158,25 @@ way-leaves s k = by (eqb (s .held) 0) refl
         let b = lawful-begun s [] (k .is-lawful) (eqb-false (s .held) 0 h) in
         begun-way (s .elements) (s .held) (k .places) (b .1) ∙ sym (b .0)
 
--- a record, with a hundred places as every one handed in has by its type, is lawful exactly if some calls leave it
-pub lawful-exactly-if : (s : Stream) → length (s .elements) ≡ 100 → lawful s ≡ true ↔ Left s
-lawful-exactly-if s l = (
-  λ h. record { rows = way s; leave = way-leaves s (record { is-lawful = h; places = l }) },
+-- with rows of bytes
+
+marker-before : (row : List ℕ) → below 256 row ≡ true → ofBytes ((2 ∷ row) ∷ []) ≡ true
+unfolding below
+marker-before row b = simp b
+
+pub way-bytes : (s : Stream) → below 256 (s .elements) ≡ true → ofBytes (way s) ≡ true
+unfolding way
+way-bytes s b = by (eqb (s .held) 0) (s .marked)
+  where
+    by : (t m : Bool) → ofBytes (pick t (pick m ((2 ∷ []) ∷ []) []) ((2 ∷ take (s .held) (s .elements)) ∷ [])) ≡ true
+    by true true = marker-before [] (below-take 256 0 (s .elements) b)
+    by true false = refl
+    by false m = marker-before (take (s .held) (s .elements)) (below-take 256 (s .held) (s .elements) b)
+
+-- a record of a hundred bytes, as every one handed in has by its type, is lawful exactly if some calls leave it
+pub lawful-exactly-if : (s : Stream) → length (s .elements) ≡ 100 → below 256 (s .elements) ≡ true → lawful s ≡ true ↔ Left s
+lawful-exactly-if s l b = (
+  λ h. record { rows = way s; of-bytes = way-bytes s b; leave = way-leaves s (record { is-lawful = h; places = l }) },
   λ w. rw (sym (w .leave)) (keeps-all (w .rows) freshStream fresh-sound .is-lawful),
 )
 

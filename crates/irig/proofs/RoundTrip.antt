@@ -28,7 +28,7 @@ use Rattle.irig.proofs.table.Laws.{all-at, all-of, at-place, hundred-of
 use Rattle.irig.proofs.Numbers.{read-number}
 use Rattle.irig.proofs.reading.Hundred.{digits-alike}
 use Rattle.irig.proofs.reading.Laws.{no-fraction}
-use Rattle.irig.proofs.writing.Laws.{digit, field-is, field-within, time-writable}
+use Rattle.irig.proofs.writing.Laws.{plain, field-is, field-within, time-writable}
 
 -- A FRAME AND ITS ELEMENTS
 
@@ -54,7 +54,7 @@ element-clear v Element.spare = refl
 element-clear v (Element.bit f i) = refl
 
 -- the digits of a time without its fraction
-plain-digits : (day tick : ℕ) → digitsOf (digit day tick) ≡ timeDigits day (withoutFraction tick)
+plain-digits : (day tick : ℕ) → digitsOf (plain day tick) ≡ timeDigits day (withoutFraction tick)
 unfolding digitsOf digits
 plain-digits day tick = cc (hour-whole tick, minute-whole tick, second-whole tick, fraction-whole tick, time-digits day (withoutFraction tick))
 
@@ -78,7 +78,7 @@ module _ (day tick : ℕ) (w : writable day tick ≡ true) (rest : List ℕ) whe
   unfolding sparesClear
   all-clear = all-of 100 (λ (j : ℕ). clear (at j) (getD row j 0)) (λ j l. ap (clear (at j)) (frame-at day tick rest j l) ∙ element-clear v (at j))
 
-  field-back : (f : Field) → fieldIn row f ≡ digit day tick f
+  field-back : (f : Field) → fieldIn row f ≡ plain day tick f
   field-back f = field-of row v (frame-at day tick rest) f (field-within day tick w f) ∙ sym (field-is day tick f)
 
   whole-writable : writable day (withoutFraction tick) ≡ true
@@ -86,7 +86,7 @@ module _ (day tick : ℕ) (w : writable day tick ≡ true) (rest : List ℕ) whe
 
   -- its digits are those of the time without the fraction
   digits-back : digitsIn row ≡ timeDigits day (withoutFraction tick)
-  digits-back = digits-alike (fieldIn row) (digit day tick) field-back ∙ plain-digits day tick
+  digits-back = digits-alike (fieldIn row) (plain day tick) field-back ∙ plain-digits day tick
 
   seconds-back : fieldIn row Field.binarySeconds ≡ wholeSeconds (withoutFraction tick)
   seconds-back = field-back Field.binarySeconds ∙ (let q : tick / 10000000 ≡ withoutFraction tick / 10000000 = omega arith in q)
@@ -119,7 +119,7 @@ module _ (day tick : ℕ) (w : writable day tick ≡ true) (rest : List ℕ) whe
 record Passed (row : List ℕ) : Type 0 where
   long : 100 ≤ length row
   fit : allFit row ≡ true
-  clear : sparesClear row ≡ true
+  spares : sparesClear row ≡ true
   decimals : decimal (digitsIn row) ≡ true
   range : digitsInRange (digitsIn row) ≡ true
   seconds : fieldIn row Field.binarySeconds ≡ wholeSeconds (tickIn (digitsIn row))
@@ -136,7 +136,7 @@ passed row n =
     record {
       long = ltb-false (length row) 100 (a .0);
       fit = not-false (allFit row) (b .0);
-      clear = not-false (sparesClear row) (c .0);
+      spares = not-false (sparesClear row) (c .0);
       decimals = not-false (decimal (digitsIn row)) (d .0);
       range = not-false (digitsInRange (digitsIn row)) (e .0);
       seconds = eqb-true (fieldIn row Field.binarySeconds) (wholeSeconds (tickIn (digitsIn row))) (not-false _ (f .0));
@@ -170,21 +170,21 @@ module _ (row : List ℕ) (n : readFrame row .number ≡ 0) where
   again = digits-again ds (twenty row) (was .decimals) (was .range)
 
   -- the fields of what is read are the frame's
-  digit-again : (f : Field) → digit day tick f ≡ fieldIn row f
+  plain-again : (f : Field) → plain day tick f ≡ fieldIn row f
   unfolding digitsOf
-  digit-again Field.secondUnits = ap (λ (l : List ℕ). getD l 11 0) (sym (time-digits day tick) ∙ again)
-  digit-again Field.secondTens = ap (λ (l : List ℕ). getD l 10 0) (sym (time-digits day tick) ∙ again)
-  digit-again Field.minuteUnits = ap (λ (l : List ℕ). getD l 9 0) (sym (time-digits day tick) ∙ again)
-  digit-again Field.minuteTens = ap (λ (l : List ℕ). getD l 8 0) (sym (time-digits day tick) ∙ again)
-  digit-again Field.hourUnits = ap (λ (l : List ℕ). getD l 7 0) (sym (time-digits day tick) ∙ again)
-  digit-again Field.hourTens = ap (λ (l : List ℕ). getD l 6 0) (sym (time-digits day tick) ∙ again)
-  digit-again Field.dayUnits = ap (λ (l : List ℕ). getD l 5 0) (sym (time-digits day tick) ∙ again)
-  digit-again Field.dayTens = ap (λ (l : List ℕ). getD l 4 0) (sym (time-digits day tick) ∙ again)
-  digit-again Field.dayHundreds = ap (λ (l : List ℕ). getD l 3 0) (sym (time-digits day tick) ∙ again)
-  digit-again Field.binarySeconds = sym (was .seconds)
+  plain-again Field.secondUnits = ap (λ (l : List ℕ). getD l 11 0) (sym (time-digits day tick) ∙ again)
+  plain-again Field.secondTens = ap (λ (l : List ℕ). getD l 10 0) (sym (time-digits day tick) ∙ again)
+  plain-again Field.minuteUnits = ap (λ (l : List ℕ). getD l 9 0) (sym (time-digits day tick) ∙ again)
+  plain-again Field.minuteTens = ap (λ (l : List ℕ). getD l 8 0) (sym (time-digits day tick) ∙ again)
+  plain-again Field.hourUnits = ap (λ (l : List ℕ). getD l 7 0) (sym (time-digits day tick) ∙ again)
+  plain-again Field.hourTens = ap (λ (l : List ℕ). getD l 6 0) (sym (time-digits day tick) ∙ again)
+  plain-again Field.dayUnits = ap (λ (l : List ℕ). getD l 5 0) (sym (time-digits day tick) ∙ again)
+  plain-again Field.dayTens = ap (λ (l : List ℕ). getD l 4 0) (sym (time-digits day tick) ∙ again)
+  plain-again Field.dayHundreds = ap (λ (l : List ℕ). getD l 3 0) (sym (time-digits day tick) ∙ again)
+  plain-again Field.binarySeconds = sym (was .seconds)
 
   field-again : (f : Field) → fieldOf day tick f ≡ fieldIn row f
-  field-again f = sym (field-is day tick f) ∙ digit-again f
+  field-again f = sym (field-is day tick f) ∙ plain-again f
 
   marker-again : (j : ℕ) → j < 100 → at j ≡ Element.marker → elementOf (fieldOf day tick) (at j) ≡ getD row j 0
   unfolding fits elementOf
@@ -194,7 +194,7 @@ module _ (row : List ℕ) (n : readFrame row .number ≡ 0) where
   unfolding clear elementOf sparesClear
   spare-again j l a =
       ap (elementOf (fieldOf day tick)) a
-      ∙ sym (eqb-true (getD row j 0) 0 (ap (λ (t : Element). clear t (getD row j 0)) (sym a) ∙ all-at 100 (λ (k : ℕ). clear (at k) (getD row k 0)) (was .clear) j l))
+      ∙ sym (eqb-true (getD row j 0) 0 (ap (λ (t : Element). clear t (getD row j 0)) (sym a) ∙ all-at 100 (λ (k : ℕ). clear (at k) (getD row k 0)) (was .spares) j l))
 
   bit-again : (j : ℕ) → j < 100 → (f : Field) (i : ℕ) → at j ≡ Element.bit f i → elementOf (fieldOf day tick) (at j) ≡ getD row j 0
   unfolding elementOf

@@ -1,11 +1,11 @@
 -- The frames of a whole list of elements, said without the record and its calls; and runs of calls, which find just these.
 use Prim.Native.Nat.{ℕ, zero, suc, _+_, _-_}
 use mathlib.Core.Path.{_≡_}
-use mathlib.Core.Bool.{_&&_}
+use mathlib.Core.Bool.{Bool, true, _&&_}
 use mathlib.Core.List.{List, [], _∷_, _++_}
 use lib.ListN.{length, take, drop}
 use lib.Dec.{ltb, eqb}
-use Rattle.wire.specs.Digits.{pick}
+use Rattle.wire.specs.Digits.{pick, below}
 use Rattle.wire.specs.declared.words.TimeRead.{TimeRead}
 use Rattle.irig.specs.declared.stream.Stream.{Stream}
 use Rattle.irig.specs.declared.stream.Finished.{Finished}
@@ -84,10 +84,16 @@ joined (part ∷ parts) = part ++ joined parts
 
 -- THE CALLS THAT LEAVE A RECORD, FROM A FRESH ONE
 
+-- rows of bytes, as every row that is handed over has by its type
+abbrev pub ofBytes : List (List ℕ) → Bool
+ofBytes [] = true
+ofBytes (row ∷ rows) = below 256 row && ofBytes rows
+
 pub record Left (s : Stream) : Type 0 where
   pub rows : List (List ℕ)
+  pub of-bytes : ofBytes rows ≡ true
   pub leave : afterAll rows freshStream ≡ s
 
--- a marker, if the last was one; or a marker and what is held, the first of which is a marker too: nothing but the record's own elements and a 2
+-- a marker, if the last was one; or a marker and what is held, the first of which is a marker too
 unfoldable pub way : Stream → List (List ℕ)
 way s = pick (eqb (s .held) 0) (pick (s .marked) ((2 ∷ []) ∷ []) []) ((2 ∷ take (s .held) (s .elements)) ∷ [])

@@ -75,21 +75,21 @@ module _ (n : ℕ) (v : Field → ℕ) (h : Holds n v) where
 
 -- THE NUMBER OF A TIME
 
--- the fields of a time as plain digits
+-- the fields of a time in plain arithmetic
 module _ (day tick : ℕ) where
-  abbrev pub digit : Field → ℕ
-  digit Field.secondUnits = secondOf tick % 10
-  digit Field.secondTens = secondOf tick / 10 % 10
-  digit Field.minuteUnits = minuteOf tick % 10
-  digit Field.minuteTens = minuteOf tick / 10 % 10
-  digit Field.hourUnits = hourOf tick % 10
-  digit Field.hourTens = hourOf tick / 10 % 10
-  digit Field.dayUnits = day % 10
-  digit Field.dayTens = day / 10 % 10
-  digit Field.dayHundreds = day / 100 % 10
-  digit Field.binarySeconds = tick / 10000000
+  abbrev pub plain : Field → ℕ
+  plain Field.secondUnits = secondOf tick % 10
+  plain Field.secondTens = secondOf tick / 10 % 10
+  plain Field.minuteUnits = minuteOf tick % 10
+  plain Field.minuteTens = minuteOf tick / 10 % 10
+  plain Field.hourUnits = hourOf tick % 10
+  plain Field.hourTens = hourOf tick / 10 % 10
+  plain Field.dayUnits = day % 10
+  plain Field.dayTens = day / 10 % 10
+  plain Field.dayHundreds = day / 100 % 10
+  plain Field.binarySeconds = tick / 10000000
 
-  pub field-is : (f : Field) → digit f ≡ fieldOf day tick f
+  pub field-is : (f : Field) → plain f ≡ fieldOf day tick f
   unfolding fieldOf digitOf
   field-is Field.secondUnits = simp div-one
   field-is Field.secondTens = refl
@@ -104,21 +104,21 @@ module _ (day tick : ℕ) where
 
 -- and how large they are
 module _ (day tick : ℕ) (w : writable day tick ≡ true) where
-  digit-within : (f : Field) → digit day tick f < 2 ^ width f
+  plain-within : (f : Field) → plain day tick f < 2 ^ width f
   unfolding width
-  digit-within Field.secondUnits = omega arith
-  digit-within Field.secondTens = let z = second-below tick in omega arith
-  digit-within Field.minuteUnits = omega arith
-  digit-within Field.minuteTens = let z = minute-below tick in omega arith
-  digit-within Field.hourUnits = omega arith
-  digit-within Field.hourTens = let z = hour-below tick (writable-tick day tick w) in omega arith
-  digit-within Field.dayUnits = omega arith
-  digit-within Field.dayTens = omega arith
-  digit-within Field.dayHundreds = let z = writable-day day tick w in omega arith
-  digit-within Field.binarySeconds = let t = writable-tick day tick w in omega arith
+  plain-within Field.secondUnits = omega arith
+  plain-within Field.secondTens = let z = second-below tick in omega arith
+  plain-within Field.minuteUnits = omega arith
+  plain-within Field.minuteTens = let z = minute-below tick in omega arith
+  plain-within Field.hourUnits = omega arith
+  plain-within Field.hourTens = let z = hour-below tick (writable-tick day tick w) in omega arith
+  plain-within Field.dayUnits = omega arith
+  plain-within Field.dayTens = omega arith
+  plain-within Field.dayHundreds = let z = writable-day day tick w in omega arith
+  plain-within Field.binarySeconds = let t = writable-tick day tick w in omega arith
 
   pub field-within : (f : Field) → fieldOf day tick f < 2 ^ width f
-  field-within f = rw (sym (field-is day tick f)) (digit-within f)
+  field-within f = rw (sym (field-is day tick f)) (plain-within f)
 
 module _ (day tick : ℕ) (w : writable day tick ≡ true) (ws : List ℕ) (o : ws ≡ wordsOrZero day tick) where
   e : ws ≡ wordsOf day tick
@@ -128,7 +128,7 @@ module _ (day tick : ℕ) (w : writable day tick ≡ true) (ws : List ℕ) (o : 
   abbrev numberOf : ℕ
   numberOf = tick / 10000000 * 68719476736 + ((getD ws 0 0 * 65536 + getD ws 1 0) * 65536 + getD ws 2 0)
 
-  number-is : numberOf ≡ together (digit day tick)
+  number-is : numberOf ≡ together (plain day tick)
   unfolding together
   number-is = simp (e, hundreds-word day tick, days-and-hours-word day tick, minutes-and-seconds-word day tick) (omega arith)
 
@@ -136,8 +136,8 @@ module _ (day tick : ℕ) (w : writable day tick ≡ true) (ws : List ℕ) (o : 
   number-holds =
       rw number-is
       record {
-        each = λ f. together-at (digit day tick) (digit-within day tick w) f ∙ field-is day tick f;
-        small = together-small (digit day tick) (digit-within day tick w);
+        each = λ f. together-at (plain day tick) (plain-within day tick w) f ∙ field-is day tick f;
+        small = together-small (plain day tick) (plain-within day tick w);
       }
 
   pub number-small : numberOf < 9007199254740992
