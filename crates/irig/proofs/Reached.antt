@@ -173,7 +173,7 @@ way-bytes s b = by (eqb (s .held) 0) (s .marked)
     by true false = refl
     by false m = marker-before (take (s .held) (s .elements)) (below-take 256 (s .held) (s .elements) b)
 
--- a record of a hundred bytes, as every one handed in has by its type, is lawful exactly if some calls leave it
+-- a record of a hundred bytes, as every one handed in is by its type, is lawful exactly if some calls leave it
 pub lawful-exactly-if : (s : Stream) → length (s .elements) ≡ 100 → below 256 (s .elements) ≡ true → lawful s ≡ true ↔ Left s
 lawful-exactly-if s l b = (
   λ h. record { rows = way s; of-bytes = way-bytes s b; leave = way-leaves s (record { is-lawful = h; places = l }) },

@@ -84,11 +84,12 @@ joined (part ∷ parts) = part ++ joined parts
 
 -- THE CALLS THAT LEAVE A RECORD, FROM A FRESH ONE
 
--- rows of bytes, as every row that is handed over has by its type
+-- rows of bytes, as every row that is handed over is by its type
 abbrev pub ofBytes : List (List ℕ) → Bool
 ofBytes [] = true
 ofBytes (row ∷ rows) = below 256 row && ofBytes rows
 
+-- some calls leave it
 pub record Left (s : Stream) : Type 0 where
   pub rows : List (List ℕ)
   pub of-bytes : ofBytes rows ≡ true

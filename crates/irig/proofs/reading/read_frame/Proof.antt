@@ -1,6 +1,7 @@
 -- `reading::read_frame` meets its contract: line by line of the page's table.
 -- Assumes nothing.
 use mathlib.Core.Path.{_∙_, sym}
+use native.Mathlib.Omega.{arith}
 use borrow.Author.Needs.{needs}
 use borrow.Author.Tests.{not-true, not-false}
 use Rattle.irig.proofs.reading.Laws.{read-short, frame-22, frame-23, frame-digits, frame-24, frame-0}
@@ -31,7 +32,7 @@ returns-3 : tie.Need-returns-3
 returns-3 c =
     let f = c .before .before .before in
     let s = f .before .before in
-    frame-23 _ (s .before .if1 .left) _ (s .scan .ensures) (not-false _ (f .if2 .left)) (c .before .if3 .taken) _ (c .refused3 .ensures)
+    frame-23 _ (s .before .if1 .left) _ (s .scan .ensures) (not-false _ (f .if2 .left)) (omega (arith, c .before .if3 .taken)) _ (c .refused3 .ensures)
 
 read-digits-requires : tie.Need-read-digits-requires
 read-digits-requires c κs = search needs
@@ -41,7 +42,7 @@ returns-4 c =
     let r = c .before .before in
     let f = r .before .before .before in
     let s = f .before .before in
-    frame-digits _ (s .before .if1 .left) _ (s .scan .ensures) (not-false _ (f .if2 .left)) (r .before .if3 .left) _ (r .read-digits .ensures) (c .if4 .taken)
+    frame-digits _ (s .before .if1 .left) _ (s .scan .ensures) (not-false _ (f .if2 .left)) (omega (arith, r .before .if3 .left)) _ (r .read-digits .ensures) (c .if4 .taken)
 
 mul-if5 : tie.Need-mul-if5
 mul-if5 c = search needs
@@ -55,7 +56,7 @@ returns-5 c =
     let r = z .before .before in
     let f = r .before .before .before in
     let s = f .before .before in
-    frame-24 _ (s .before .if1 .left) _ (s .scan .ensures) (not-false _ (f .if2 .left)) (r .before .if3 .left) _ (r .read-digits .ensures) (z .if4 .left) (c .before .if5 .taken) _ (c .refused4 .ensures)
+    frame-24 _ (s .before .if1 .left) _ (s .scan .ensures) (not-false _ (f .if2 .left)) (omega (arith, r .before .if3 .left)) _ (r .read-digits .ensures) (z .if4 .left) (c .before .if5 .taken) _ (c .refused4 .ensures)
 
 returns-6 : tie.Need-returns-6
 returns-6 c =
@@ -63,7 +64,7 @@ returns-6 c =
     let r = z .before .before in
     let f = r .before .before .before in
     let s = f .before .before in
-    frame-0 _ (s .before .if1 .left) _ (s .scan .ensures) (not-false _ (f .if2 .left)) (r .before .if3 .left) _ (r .read-digits .ensures) (z .if4 .left) (c .if5 .left)
+    frame-0 _ (s .before .if1 .left) _ (s .scan .ensures) (not-false _ (f .if2 .left)) (omega (arith, r .before .if3 .left)) _ (r .read-digits .ensures) (z .if4 .left) (c .if5 .left)
 
 pub read-frame-spec : {M : Type 1} → statement M
 read-frame-spec =
