@@ -9,6 +9,7 @@ import sys
 
 START, END = 0x01, 0x17
 LONGEST = 41
+LARGEST_JAMMED = 9_900      # ticks either way: a larger offset needs the jam off
 
 DIGITS = b"0123456789"
 PAIRS_WITHOUT_MEANING = (b"AM", b"CD", b"XD")
@@ -35,8 +36,13 @@ def pieces(data):
         yield bytes(piece)
 
 
-def answer(piece):
-    """The number that a fresh card gives to these bytes in its queue, by the table, from 4 to 10."""
+def beyond(offset):
+    """Whether this offset needs the jam off."""
+    return abs(offset) > LARGEST_JAMMED
+
+
+def refusal(piece):
+    """The number that refuses these bytes as a packet on its own, by the table, from 4 to 10; else 0. It asks nothing of a jam."""
     if piece[:1] != bytes([START]):
         return 4
     end = piece[:LONGEST].find(END)
@@ -55,6 +61,16 @@ def answer(piece):
     if ident == b"H" and data in PAIRS_WITHOUT_MEANING:
         return 10
     return 0
+
+
+def needs_jam_off(piece):
+    """Whether these bytes are an accepted packet that needs the jam off: only a G can be."""
+    return refusal(piece) == 0 and piece[1:2] == b"G" and beyond(int(piece[2:piece.index(END)]))
+
+
+def answer(piece, jam=1):
+    """The number that a card gives to these bytes in its queue; a fresh card has the jam on. All that refuse a packet on its own come before 25."""
+    return 25 if jam and needs_jam_off(piece) else refusal(piece)
 
 
 def listing(data):

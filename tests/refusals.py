@@ -8,7 +8,23 @@ stream's record can be torn.
 How a line is written, and the page's answers, are in script.py.
 """
 from irig import MARKER, changed, frame_of, record, stream_of
-from script import DAY, FORBIDDEN, OFFSETS, ZEROS, Script, in_words, read_words, write_packet, write_words
+from listing import beyond
+from script import DAY, FORBIDDEN, OFFSETS, ZEROS, Card, Script, in_words, read_words, write_packet, write_words
+
+FORTY = b"\x01A" + b"0" * 38
+# packets that are refused: what is said, and the bytes
+REFUSED = (
+    ("no bytes", b""), ("first byte 02", b"\x02A0\x17"), ("40 bytes and then 17", FORTY + b"\x17"), ("41 bytes and then 17", FORTY + b"0\x17"),
+    ("41 bytes", FORTY + b"0"), ("40 bytes", FORTY), ("a lone 01", b"\x01"), ("no id", b"\x01\x17"), ("id a", b"\x01a0\x17"), ("A with two digits", b"\x01A44\x17"),
+    ("A with none", b"\x01A\x17"), ("A 8", b"\x01A8\x17"), ("H A Q", b"\x01HAQ\x17"), ("A 4", b"\x01A4\x17"), ("A 7", b"\x01A7\x17"), ("H A M", b"\x01HAM\x17"),
+    ("H C D", b"\x01HCD\x17"), ("H X D", b"\x01HXD\x17"), ("I X", b"\x01IX\x17"), ("K A", b"\x01KA\x17"), ("G with a letter", b"\x01G+00x0000\x17"),
+    ("64 zeros", bytes(64)),
+)
+# the same with a large offset, so that their numbers come before 25; 10 is of A and H alone, which have none
+REFUSED_LARGE = (
+    ("first byte 02", b"\x02G+0025000\x17"), ("no 17", b"\x01G+0025000"), ("id g", b"\x01g+0025000\x17"), ("a digit more", b"\x01G+00250000\x17"),
+    ("a digit fewer", b"\x01G-999999\x17"), ("41 bytes", b"\x01G+0025000" + b"0" * 31), ("a letter", b"\x01G+00250x0\x17"), ("no sign", b"\x01G09999999\x17"),
+)
 
 
 def registers(s):
@@ -31,13 +47,7 @@ def registers(s):
 
 def packets(s):
     """Through ACK: refused or not, the queue is empty afterwards."""
-    forty = b"\x01A" + b"0" * 38
-    for words, bytes_ in (("empty queue", b""), ("first byte 02", b"\x02A0\x17"), ("40 bytes and then 17", forty + b"\x17"),
-                          ("41 bytes and then 17", forty + b"0\x17"), ("41 bytes", forty + b"0"), ("40 bytes", forty), ("a lone 01", b"\x01"),
-                          ("no id", b"\x01\x17"), ("id a", b"\x01a0\x17"), ("A with two digits", b"\x01A44\x17"), ("A with none", b"\x01A\x17"),
-                          ("A 8", b"\x01A8\x17"), ("H A Q", b"\x01HAQ\x17"), ("A 4", b"\x01A4\x17"), ("A 7", b"\x01A7\x17"), ("H A M", b"\x01HAM\x17"),
-                          ("H C D", b"\x01HCD\x17"), ("H X D", b"\x01HXD\x17"), ("I X", b"\x01IX\x17"), ("K A", b"\x01KA\x17"),
-                          ("G with a letter", b"\x01G+00x0000\x17"), ("64 zeros", bytes(64))):
+    for words, bytes_ in REFUSED:
         s.fresh()
         s.latch(1, *ZEROS)
         s.feed(bytes_)
@@ -51,6 +61,20 @@ def packets(s):
         s.fresh()
         s.feed(bytes_)
         s.call(words, "w", 12, 0x80)
+
+
+def packets_alone(s):
+    """Read on their own, which asks nothing of a jam."""
+    for words, bytes_ in REFUSED:
+        s.packet(f"read {words}", bytes_)
+    for words, bytes_ in REFUSED_LARGE:
+        s.packet(f"read a large offset, {words}", bytes_)
+    for text in ("A0 A1 A2 A3 A5 A6 HAD HBM HBD HCM HNM HND HXM IE II KB KH G+0000000 G-0000000 G+0000001 G-0000001 G+0009899 G-0009899 G+0009900 G-0009900"
+                 " G+0009901 G-0009901 G+0010000 G-0010000 G+0025000 G-0025000 G+0099000 G-8388608 G+9999999 G-9999999").split():
+        s.packet(f"read {text}", b"\x01%s\x17" % text.encode())
+    for words, bytes_ in (("A 2 and more", b"\x01A2\x17\x01A4\x17"), ("G +0009901, and then one within", b"\x01G+0009901\x17\x01G+0000000\x17"),
+                          ("G -0009900, and then one beyond", b"\x01G-0009900\x17\x01G-0009901\x17"), ("G -0009901 and 53 bytes more", b"\x01G-0009901\x17" + b"9" * 53)):
+        s.packet(f"read {words}", bytes_)
 
 
 def alone(s):
@@ -100,11 +124,16 @@ def frames(s):
         s.read(f"read a frame {words}", row)
 
 
-def refused(s, *call):
-    """A call of a fresh card, which is shown if it is refused."""
-    s.fresh()
+def told(s, *call):
+    """A call, and the card behind it if it is refused."""
     if s.call(*call)[0]:
         s.show()
+
+
+def refused(s, *call):
+    """The same of a fresh card."""
+    s.fresh()
+    told(s, *call)
 
 
 def setting(s):
@@ -148,7 +177,77 @@ def saving(s):
         refused(s, "load " + words, "o", len(form), *form)
 
 
-# every way to break a range, each alone: what is said, what is set, and how
+# around the border, and far beyond it
+BORDER = (9_900, -9_900, 9_901, -9_901, 25_000, -9_999_999)
+
+
+def held(s, jam, offset=-9_900):
+    """A card with settings of its own, and with the done bit."""
+    s.fresh()
+    s.latch(1, *ZEROS)
+    s.settings(5, 3, 1, 1, 1, OFFSETS.index(offset))
+    s.jam(jam)
+
+
+def form_of(offset):
+    """The five bytes of a fresh card's settings, but for the offset."""
+    card = Card()
+    card.offset = offset
+    return card.saved()
+
+
+def jam(s):
+    """25 through ACK, from a load and from the switch, each beside the nearest that it does not refuse."""
+    for on in (1, 0):
+        for offset in BORDER:
+            words = f"{in_words('j', on)}, {offset}"
+            held(s, on)
+            s.feed(b"\x01G%+08d\x17\x01G%+08d\x17" % (offset, 0 if beyond(offset) else 25_000))      # the second is dropped
+            told(s, f"{words} by a packet", "w", 12, 0x80)
+            held(s, on)
+            told(s, f"{words} by a load", "o", 5, *form_of(offset))
+        for words, bytes_ in REFUSED_LARGE:
+            held(s, on)
+            s.feed(bytes_)
+            told(s, f"{in_words('j', on)}, a large offset, {words}", "w", 12, 0x80)
+    large = form_of(25_000)
+    for words, form in (("a spare bit", (*large[:4], large[4] | 1)), ("mode 4", (large[0] | 0x80, *large[1:])), ("A with M", (0, *large[1:])),
+                        ("4 bytes", large[:4]), ("6 bytes", (*large, 0)), ("10000000", form_of(10_000_000)), ("-10000000", form_of(-10_000_000))):
+        held(s, 1)
+        s.queue(1, 0, 9)
+        told(s, f"load a large offset, {words}", "o", len(form), *form)
+    for words, form in (("10000000", form_of(10_000_000)), ("minus zero", (4, 0x40, 0, 0, 0))):
+        held(s, 0)
+        told(s, f"jam off, load {words}", "o", 5, *form)
+    for value in (0, 1, 0x81, 0xFFFE):
+        held(s, 1)
+        s.feed(b"\x01G-0009901\x17")
+        s.call(f"-9901 in the queue, write register 12 with {value:#06x}", "w", 12, value)
+        s.show()
+    held(s, 0)
+    s.feed(b"\x01G-0009901\x17")
+    s.call("-9901 in the queue, jam on", "j", 1)
+    s.call("and then taken", "w", 12, 0x80)
+    s.show()
+    s.fresh()
+    s.feed(b"\x01G-0009901\x17")
+    s.settings(0, 1, 0, 0, 0, OFFSETS.index(9_901))
+    s.call("9901 held with the jam on, -9901 taken", "w", 12, 0x80)
+    s.call("9901 held with the jam on, 0 loaded", "o", 5, *form_of(0))
+    s.show()
+    for offset in (0, *BORDER):
+        for on in (1, 0):
+            held(s, 0, offset)
+            told(s, f"{offset} held, {in_words('j', on)}", "j", on)
+
+
+def jam_off(s, *six):
+    """Settings of a card whose jam is off."""
+    s.settings(*six)
+    s.jam(0)
+
+
+# every way to break a range, each alone (an offset out of its range with the jam on breaks two, so it comes with the jam off too): what is said, what is set, and how
 TORN = (
     ("year 0", Script.time, (0, 1, 0)),
     ("year 10000", Script.time, (10_000, 1, 0)),
@@ -189,6 +288,15 @@ TORN = (
     ("offset -10000000", Script.settings, (0, 1, 0, 0, 0, 5)),
     ("offset 2147483647", Script.settings, (0, 1, 0, 0, 0, 6)),
     ("offset -2000000000", Script.settings, (0, 1, 0, 0, 0, 7)),
+    ("offset 10000000, jam off", jam_off, (0, 1, 0, 0, 0, 4)),
+    ("offset -10000000, jam off", jam_off, (0, 1, 0, 0, 0, 5)),
+    ("offset 2147483647, jam off", jam_off, (0, 1, 0, 0, 0, 6)),
+    ("offset -2000000000, jam off", jam_off, (0, 1, 0, 0, 0, 7)),
+    ("offset 25000, jam on", Script.settings, (0, 1, 0, 0, 0, 1)),
+    ("offset 9901, jam on", Script.settings, (0, 1, 0, 0, 0, 10)),
+    ("offset -9901, jam on", Script.settings, (0, 1, 0, 0, 0, 11)),
+    ("offset 9999999, jam on", Script.settings, (0, 1, 0, 0, 0, 2)),
+    ("offset -9999999, jam on", Script.settings, (0, 1, 0, 0, 0, 3)),
     ("65 bytes in the queue", Script.queue, (65, 0, 0)),
     ("a byte behind an empty queue", Script.queue, (0, 0, 1)),
     ("a byte in the last place, behind 63", Script.queue, (63, 63, 1)),
@@ -202,26 +310,34 @@ SOUND = (
     ("all bits", Script.interrupts, (31, 31, 7, 255)),
     ("CONTROL 3, event latch of day 366", Script.event, (3, 3, 0x6623, 0x5959, 0x9999, 0x9990)),
     ("time latch of day 1", Script.latch, (1, 0, 0x0100, 0, 0, 0)),
-    ("mode 6, A with D, offset -9999999", Script.settings, (6, 0, 1, 0, 0, 3)),
+    ("mode 6, A with D, offset -9999999, jam off", jam_off, (6, 0, 1, 0, 0, 3)),
+    ("offset 9901, jam off", jam_off, (0, 1, 0, 0, 0, 10)),
+    ("offset -9901, jam off", jam_off, (0, 1, 0, 0, 0, 11)),
+    ("offset 9900, jam on", Script.settings, (0, 1, 0, 0, 0, 8)),
+    ("offset -9900, jam on", Script.settings, (0, 1, 0, 0, 0, 9)),
+    ("jam off", Script.jam, (0,)),
     ("64 bytes in the queue", Script.queue, (64, 63, 1)),
 )
 
 
 def cards(s):
     """Each torn card through every call, most with arguments that a lawful card would refuse by another number; nothing of the card changes."""
-    calls = (("r", 99), ("w", 99, 0), ("w", 12, 0x81), ("w", 13, 1), ("b", 0, 1, 1), ("b", 65, 1, 1), ("e", 0), ("l",), ("x",), ("p", 4), ("o", 4, 0, 0, 0, 0),
-             ("t", 0, 0, 0, 0, 0), ("d", 1, 1), ("q",), ("s", 1000), ("a", 24, 0, 0, 0), ("z",), ("n", 0, DAY + 1), ("i", 0, DAY + 1), ("W", 99))
+    calls = (("r", 99), ("w", 99, 0), ("w", 12, 0x81), ("w", 13, 1), ("b", 0, 1, 1), ("b", 65, 1, 1), ("e", 0), ("l",), ("j", 1), ("j", 0), ("x",), ("p", 4),
+             ("o", 4, 0, 0, 0, 0), ("o", 5, *form_of(25_000)), ("t", 0, 0, 0, 0, 0), ("d", 1, 1), ("q",), ("s", 1000), ("a", 24, 0, 0, 0), ("z",), ("n", 0, DAY + 1),
+             ("i", 0, DAY + 1), ("W", 99))
     for words, put, values in TORN:
         s.fresh()
         put(s, *values)
         assert not s.card.lawful()
+        s.say(words)
         s.show()
         for call in calls:
-            s.call(f"{words}, {in_words(*call)}", *call)
+            s.call("", *call)
         s.show()
     for words, put, values in SOUND:
         s.fresh()
         put(s, *values)
+        assert s.card.lawful()
         s.call(f"{words}, taken", "r", 11)
 
 
@@ -268,6 +384,6 @@ def streams(s):
 
 if __name__ == "__main__":
     s = Script()
-    for part in (registers, packets, alone, frames, setting, waiting, saving, cards, streams):
+    for part in (registers, packets, packets_alone, alone, frames, setting, waiting, saving, jam, cards, streams):
         part(s)
     s.write_files("refusals")

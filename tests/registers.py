@@ -3,16 +3,18 @@
 
     python3 tests/registers.py            from the root of the repository
 
-Calls that are done, and the whole card after each: what is written is read back, and what no rule names stays. How a line is written, and the page's answers, are in
-script.py.
+Calls that are done, and the whole card after each: what is written is read back, and what no rule names stays. Beside them, what the jam refuses of large offsets. How a
+line is written, and the page's answers, are in script.py.
 """
-from script import DAY, FORBIDDEN, SECOND, Script, write_words
+from listing import beyond
+from script import DAY, FORBIDDEN, OFFSETS, SECOND, Script, in_words, write_words
 
 PAGE_TIME = (2004, 45, 472_291_234_567)
 LATCHED = write_words(366, DAY - 1)[1:]
 STAMPED = write_words(7, 12_345_678)[1:]
 PAIRS = [(form, modulation) for form in range(5) for modulation in range(2) if (form, modulation) not in FORBIDDEN]
 MODES = (0, 1, 2, 3, 5, 6)
+OTHER = (6, 0, 1, 1, 1)         # mode, format, modulation, clock and generator, none as on a fresh card
 
 
 def everything(s):
@@ -23,9 +25,14 @@ def everything(s):
     s.interrupts(21, 26, 5, 0xC3)
     s.event(1, *STAMPED)
     s.latch(1, *LATCHED)
-    s.settings(6, 0, 1, 1, 1, 3)
+    s.settings(*OTHER, 3)
+    s.jam(0)
     s.feed(b"\x01\x02\xff")
     assert s.card.lawful()
+
+
+def packet(text):
+    return b"\x01%s\x17" % text.encode()
 
 
 class Registers(Script):
@@ -87,10 +94,11 @@ def time_latch(s):
 
 def edges(s):
     s.say("Edges: both kinds, with each CONTROL, masked or not, and bit 0 pending before or not")
+    everything(s)
     for control in range(4):
         for falling in range(2):
             for mask, pending in ((0, 26), (31, 26), (0, 27)):
-                everything(s)
+                s.event(1, *STAMPED)
                 s.interrupts(mask, pending, 5, 0xC3)
                 s.do("w", 11, control)
                 s.do("e", falling)
@@ -130,17 +138,23 @@ def fifo(s):
 
 
 def packets(s):
-    s.say("Every kind of packet that is taken, by a fresh card and by one that has other settings")
-    texts = ([f"A{mode}" for mode in MODES] + [f"G{offset}" for offset in
-             ("+0000000", "-0000000", "+0000001", "-0000001", "+0025000", "-1234567", "+9999999", "-9999999", "+8388608", "-8388607")]
+    s.say("Every kind of packet, to a fresh card with the jam on, to one with it off, and to one that has it off, a large offset and other settings")
+    texts = ([f"A{mode}" for mode in MODES] + ["G" + offset for offset in
+             ("+0000000", "-0000000", "+0000001", "-0000001", "+0009899", "-0009899", "+0009900", "-0009900", "+0009901", "-0009901", "+0010000", "-0010000",
+              "+0025000", "-1234567", "+9999999", "-9999999", "+8388608", "-8388607")]
              + ["H" + "ABCNX"[form] + "MD"[modulation] for form, modulation in PAIRS] + ["IE", "II", "KB", "KH"])
+    for jam in (1, 0):
+        for text in texts:
+            s.fresh()
+            s.jam(jam)
+            s.feed(packet(text))
+            s.do("w", 12, 0x80, words=f"{text}, {in_words('j', jam)}")
+    everything(s)
+    s.queue(0, 0, 0)
     for text in texts:
-        packet = b"\x01" + text.encode() + b"\x17"
-        for words, set_up in (("a fresh card", s.fresh), ("another", lambda: everything(s))):
-            set_up()
-            s.queue(0, 0, 0)
-            s.feed(packet)
-            s.do("w", 12, 0x80, words=f"{text}, {words}")
+        s.settings(*OTHER, 3)
+        s.feed(packet(text))
+        s.do("w", 12, 0x80, words=f"{text}, another card")
     s.say("Bytes behind the first 0x17 are dropped")
     s.fresh()
     s.feed(b"\x01A5\x17\x01A6\x17" + bytes(range(1, 57)))
@@ -164,20 +178,61 @@ def saved(s):
     """What one card saves, another card loads: settings of which one is other than on a fresh card, and some of which several are."""
     s.say("Saved settings: mode, format, modulation, clock, generator, offset")
     fresh = (0, 1, 0, 0, 0)
-    alone = ([(mode, *fresh[1:], "+0000000") for mode in MODES] + [(0, form, modulation, 0, 0, "+0000000") for form, modulation in PAIRS]
-             + [(0, 1, 0, 1, 0, "+0000000"), (0, 1, 0, 0, 1, "+0000000"), (0, 1, 0, 1, 1, "+0000000"), (6, 4, 0, 1, 1, "-9999999"), (3, 0, 1, 0, 1, "-0000001"),
-                (0, 1, 1, 0, 0, "+0025000"), (6, 0, 1, 0, 0, "-9999999"), (5, 4, 0, 0, 0, "+9999999")]
-             + [(*fresh, offset) for offset in ("+0000001", "-0000001", "+0025000", "+9999999", "-9999999", "+5592405", "-2796202", "+8388608", "-8388608")])
+    alone = ([(mode, *fresh[1:], 0) for mode in MODES] + [(0, form, modulation, 0, 0, 0) for form, modulation in PAIRS]
+             + [(0, 1, 0, 1, 0, 0), (0, 1, 0, 0, 1, 0), (0, 1, 0, 1, 1, 0), (6, 4, 0, 1, 1, -9_999_999), (3, 0, 1, 0, 1, -1),
+                (0, 1, 1, 0, 0, 25_000), (6, 0, 1, 0, 0, -9_999_999), (5, 4, 0, 0, 0, 9_999_999)]
+             + [(*fresh, offset) for offset in (1, -1, 9_900, -9_900, 9_901, -9_901, 25_000, 9_999_999, -9_999_999, 5_592_405, -2_796_202, 8_388_608, -8_388_608)])
+    forms = {}
     for mode, form, modulation, clock, generator, offset in alone:
-        words = f"save {mode} {'ABCNX'[form]} {'MD'[modulation]} {'IE'[clock]} {'BH'[generator]} {offset}"
+        words = f"{mode} {'ABCNX'[form]} {'MD'[modulation]} {'IE'[clock]} {'BH'[generator]} {offset}"
         s.fresh()
         s.settings(mode, form, modulation, clock, generator, 0)
-        s.feed(f"\x01G{offset}\x17".encode())
+        if beyond(offset):
+            s.do("j", 0)
+        s.feed(packet(f"G{offset:+08}"))
         s.do("w", 12, 0x81)
-        bytes_ = s.do("p", 5, words=words)[1:6]
-        everything(s)
-        s.do("o", 5, *bytes_, words="another card, load them")
-        s.do("p", 12, words="and save them again")
+        forms[words] = s.do("p", 5, words=f"save {words}")[1:6]
+    s.say("Loaded by another card, which has the jam off, and saved again")
+    everything(s)
+    for words, form in forms.items():
+        s.settings(*OTHER, 3)
+        s.do("o", 5, *form, words=words)
+        s.do("p", 12)
+    s.say("Loaded by a card that has the jam on, and the done bit clear")
+    s.jam(1)
+    s.latch(0, *LATCHED)
+    for words, form in forms.items():
+        s.settings(*OTHER, 9)
+        s.do("o", 5, *form, words=words)
+
+
+def switch(s):
+    s.say("The jam's switch, from off and from on, with any offset that a card can hold then")
+    everything(s)
+    for jam in (0, 1):
+        for place in (0, 8, 9, 10, 11, 3):
+            if jam and beyond(OFFSETS[place]):
+                continue
+            for on in (1, 0):
+                s.settings(*OTHER, place)
+                s.jam(jam)
+                s.do("j", on, words=f"{OFFSETS[place]} held, {in_words('j', jam)}, then {in_words('j', on)}")
+    s.say("After a reset the jam is on, and large offsets need it off from then on")
+    everything(s)
+    s.do("x")
+    s.do("j", 1)
+
+    def send(text):
+        s.feed(packet(text))
+        s.do("w", 12, 0x80, words=text)
+
+    send("G-0009901")
+    s.do("j", 0)
+    send("G-0009901")
+    s.do("j", 1)
+    send("G+0009900")
+    s.do("j", 1)
+    send("G-0009901")
 
 
 def resets(s):
@@ -190,15 +245,30 @@ def resets(s):
             s.do("r", register)
     s.do("l")
     s.do("x")
-    s.say("Reset: what stays of each mode, pair and generator")
+    s.say("Reset: what stays of each mode, pair and generator, with the jam off before and then on")
     for mode in MODES:
         everything(s)
         s.settings(mode, 1, 0, 1, 0, 2)
         s.do("x")
     for form, modulation in PAIRS:
         everything(s)
-        s.settings(5, form, modulation, 1, 1, 1)
+        s.settings(5, form, modulation, 1, 1, 9)
+        s.jam(1)
         s.do("x")
+
+
+def others(s):
+    s.say("No other call changes the jam: each done, and most refused too")
+    for jam in (1, 0):
+        everything(s)
+        s.settings(*OTHER, OFFSETS.index(-9_900))
+        s.jam(jam)
+        for call in (("r", 0), ("r", 12), ("r", 13), ("w", 99, 0), ("w", 0, 0), ("w", 11, 5), ("e", 0), ("r", 15), ("e", 1), ("l",), ("w", 12, 1), ("w", 13, 1), ("b", 2, 1, 1),
+                     ("b", 80, 1, 1), ("w", 14, 31), ("w", 15, 1), ("w", 16, 7), ("w", 17, 1), ("t", 0, 1, 0, 0, 0), ("t", 2004, 1, 0, 0, 0), ("s", 1000), ("s", 0),
+                     ("a", 24, 0, 0, 0), ("a", 0, 0, 0, 0), ("z",), ("d", 1, 1), ("d", 2000, 2000), ("q",), ("p", 5), ("o", 0), ("n", 0, 1), ("n", 1, 1), ("i", 1, 1),
+                     ("w", 12, 0x80)):
+            s.call("", *call)
+        s.show()
 
 
 def waits(s):
@@ -217,6 +287,6 @@ def waits(s):
 if __name__ == "__main__":
     s = Registers()
     s.show()
-    for part in (written, line, time_latch, edges, acknowledge, fifo, packets, sources, saved, resets, waits):
+    for part in (written, line, time_latch, edges, acknowledge, fifo, packets, sources, saved, switch, resets, others, waits):
         part(s)
     s.write_files("registers")

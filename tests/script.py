@@ -5,6 +5,7 @@ A line is what is to be said, a bar, and a call: a letter and decimal numbers. A
     N a fresh card                        T YEAR DAY TICK                      S KIND MS N1 N2 COUNT (kind 0 off, 1 daily, 2 each second)
     I MASK PENDING LEVEL VECTOR           E CONTROL and five words             L DONE and five words, of the time latch
     Q FILL PLACE BYTE                     F COUNT and bytes, written to FIFO   M MODE FORMAT MODULATION CLOCK GENERATOR OFFSET
+    O JAM
 
 Behind the others stand their number and what else they give back:
 
@@ -13,16 +14,17 @@ Behind the others stand their number and what else they give back:
     i PLACES TICKS (wait in place)   f DAY TICK   g 0 and five words   A PLACES MODE   G PLACES OFFSET   H PLACES FORMAT MODULATION
     J PLACES (I with E)   K PLACES (K with H)   c WANTED (the nearest pair)   u HIGH LOW (the same, to HIGH x 4294967296 + LOW)   v what stands in the card
     W PLACES (the card's frame)   m PLACE ELEMENT (the card's frame with another element, read)   R ROW (a frame read)   Y HELD MARKED PLACES ROW (a stream takes a row)
-    y HELD MARKED PLACES (whether the stream is lawful)
+    y HELD MARKED PLACES (whether the stream is lawful)   j ON (the jam's switch)   P COUNT and bytes (a packet read on its own, of at most 64)
 
-Formats are A, B, C, N, X as 0 to 4; modulation D, clock external and generator H are 1; an offset is its place in OFFSETS. The bytes of a block are FIRST and
-each one STEP more than the one before, from 0 on again behind 255; there are at most 80. Lent places, ten for a wait, twelve for
-bytes and 104 for a frame, hold 7 before. The elements of a row, and the places of a stream's record, stand without spaces, each as the character whose code is 48
-more, so that 0 to 9 are their digits and / is 255; a record has zeros behind the places that a line has. Behind the number that a row gives stand how many elements were
-taken; 0, or 1 and the frame's number, day and tick; and the record afterwards. A card is shown as year, day and tick; strobe, 0 or its kind and milliseconds;
-periodic, 0 or n1, n2 and count; mask, pending, level, vector;
-CONTROL and the event latch; the time latch; mode, format, modulation, clock, generator, minus, size of the offset; done; the queue's fill; and each of its 64 bytes that
-is not 0, as place:byte.
+Formats are A, B, C, N, X as 0 to 4; modulation D, clock external and generator H are 1; an offset is its place in OFFSETS; JAM and ON are 1 for on, else off. The bytes
+of a block are FIRST and each one STEP more than the one before, from 0 on again behind 255; there are at most 80. Lent places, ten for a wait, twelve for bytes and 104
+for a frame, hold 7 before. The elements of a row, and the places of a stream's record, stand without spaces, each as the character whose code is 48 more, so that 0 to 9
+are their digits and / is 255; a record has zeros behind the places that a line has. Behind the number that a row gives stand how many elements were taken; 0, or 1 and
+the frame's number, day and tick; and the record afterwards. Behind the number of a packet that was read stand its id; 1 if its value is below 0; the size of the value,
+of a letter its byte; for H the modulation's byte, else 0; and 1 if it needs the jam off. All five are 0 if it was refused.
+
+A card is shown as year, day and tick; strobe, 0 or its kind and milliseconds; periodic, 0 or n1, n2 and count; mask, pending, level, vector; CONTROL and the event latch;
+the time latch; mode, format, modulation, clock, generator, minus, size of the offset; jam; done; the queue's fill; and each of its 64 bytes that is not 0, as place:byte.
 
 The answers are worked out here from the page; nothing of crates/ is read. What a wait lists is found by going through its window tick by tick. Days are counted by
 Python's own calendar.
@@ -32,15 +34,16 @@ import functools
 from datetime import date, timedelta
 
 from irig import ELEMENTS, frame_at, read_frame, stream_of, take_row
-from listing import answer
+from listing import END, answer, beyond, needs_jam_off, refusal
 
 DAY = 864_000_000_000
 SECOND = 10_000_000
 MILLISECOND = 10_000
-OFFSETS = (0, 25_000, 9_999_999, -9_999_999, 10_000_000, -10_000_000, 2_147_483_647, -2_000_000_000)
+OFFSETS = (0, 25_000, 9_999_999, -9_999_999, 10_000_000, -10_000_000, 2_147_483_647, -2_000_000_000, 9_900, -9_900, 9_901, -9_901)
 FORBIDDEN = ((0, 0), (2, 1), (4, 1))        # A with M, C with D, X with D
 ZEROS = (0, 0, 0, 0, 0)
 WAIT_PLACES, BYTE_PLACES, FRAME_PLACES, UNTOUCHED = 10, 12, 104, 7
+LONGEST_PACKET = 64         # bytes that a line can have to be read as a packet
 
 
 def days_in(year):
@@ -82,6 +85,16 @@ def write_packet(places, text, number):
     if number:
         return (number, 0, *row)
     return (0, len(packet), *packet, *row[len(packet):])
+
+
+def read_packet(bytes_):
+    """A packet read on its own."""
+    number = refusal(bytes_)
+    if number:
+        return (number,) + ZEROS
+    ident, data = bytes_[1], bytes_[2:bytes_.index(END)]
+    value = int(data) if ident in b"AG" else data[0]
+    return 0, ident, int(value < 0), abs(value), data[1] if ident == ord("H") else 0, int(needs_jam_off(bytes_))
 
 
 def elements(row):
@@ -126,6 +139,7 @@ class Card:
         self.mask = self.pending = self.level = self.vector = 0
         self.control, self.event_latch, self.time_latch = 0, ZEROS, ZEROS
         self.mode, self.form, self.modulation, self.clock, self.generator, self.offset = 0, 1, 0, 0, 0, 0
+        self.jam = 1
         self.done, self.queue, self.fill = 0, [0] * 64, 0
 
     def lawful(self):
@@ -138,12 +152,13 @@ class Card:
                 and self.mask < 32 and self.pending < 32 and self.level < 8 and self.control < 4
                 and all(latch == ZEROS or read_words(latch)[0] == 0 for latch in (self.time_latch, self.event_latch))
                 and self.mode in (0, 1, 2, 3, 5, 6) and (self.form, self.modulation) not in FORBIDDEN and abs(self.offset) <= 9_999_999
+                and not (self.jam and beyond(self.offset))
                 and self.fill <= 64 and not any(self.queue[self.fill:]))
 
     def shown(self):
         queued = (f"{place}:{byte}" for place, byte in enumerate(self.queue) if byte)
         return (*self.time, *self.strobe, *self.periodic, self.mask, self.pending, self.level, self.vector, self.control, *self.event_latch, *self.time_latch,
-                self.mode, self.form, self.modulation, self.clock, self.generator, int(self.offset < 0), abs(self.offset), self.done, self.fill, *queued)
+                self.mode, self.form, self.modulation, self.clock, self.generator, int(self.offset < 0), abs(self.offset), self.jam, self.done, self.fill, *queued)
 
     def words(self):
         return write_words(*self.time[1:])[1:]
@@ -200,7 +215,7 @@ class Card:
         if not value & 0x80:
             return (0,)
         piece = bytes(self.queue[:self.fill])
-        number = answer(piece)
+        number = answer(piece, self.jam)
         if number == 0:
             self.take(piece[1:2], piece[2:piece.index(0x17)].decode())
         self.queue, self.fill, self.done = [0] * 64, 0, int(number == 0)
@@ -227,7 +242,13 @@ class Card:
     def line(self):
         return (0, 1, self.level, self.vector) if self.level and self.mask & self.pending else (0, 0, 0, 0)
 
-    # reset, and saved settings
+    # the jam, reset, and saved settings
+
+    def switch(self, on):
+        if on and beyond(self.offset):
+            return (25,)
+        self.jam = on
+        return (0,)
 
     def reset(self):
         kept = self.time, self.mode, self.form, self.modulation, self.generator
@@ -252,8 +273,10 @@ class Card:
         minus, size = int(bits[9]), int(bits[10:34], 2)
         if mode in (4, 7) or kind > 4 or (kind, modulation) in FORBIDDEN or size > 9_999_999 or (minus and size == 0) or "1" in bits[34:]:
             return (19,)
-        self.mode, self.form, self.modulation, self.clock, self.generator = mode, kind, modulation, int(bits[7]), int(bits[8])
-        self.offset = -size if minus else size
+        offset = -size if minus else size
+        if self.jam and beyond(offset):
+            return (25,)
+        self.mode, self.form, self.modulation, self.clock, self.generator, self.offset = mode, kind, modulation, int(bits[7]), int(bits[8]), offset
         return (0,)
 
     # frames
@@ -338,6 +361,7 @@ CALLS = {
     "b": (Card.block, (0,), "block of {}, {} and steps of {}"),
     "e": (Card.edge, (), "input edge"),
     "l": (Card.line, (0, 0, 0), "interrupt line"),
+    "j": (Card.switch, (), "jam"),
     "x": (Card.reset, (), "reset"),
     "p": (Card.save, (UNTOUCHED,) * BYTE_PLACES, "save into {} places"),
     "o": (Card.load, (), "load {} bytes"),
@@ -356,6 +380,8 @@ CALLS = {
 def in_words(letter, *numbers):
     if letter == "e":
         return "falling edge" if numbers[0] else "rising edge"
+    if letter == "j":
+        return "jam on" if numbers[0] else "jam off"
     return CALLS[letter][2].format(*numbers)
 
 
@@ -407,12 +433,17 @@ class Script:
         c.mode, c.form, c.modulation, c.clock, c.generator = six[:5]
         c.offset = OFFSETS[six[5]]
 
+    def jam(self, on):
+        self.ask("", "O", on)
+        self.card.jam = on
+
     def queue(self, fill, place, byte):
         self.ask("", "Q", fill, place, byte)
         self.card.queue = [0] * 64
         self.card.queue[place], self.card.fill = byte, fill
 
     def feed(self, bytes_):
+        assert self.card.lawful()       # a torn card takes none
         self.ask("", "F", len(bytes_), *bytes_)
         for byte in bytes_:
             self.card.write(13, byte)
@@ -435,6 +466,11 @@ class Script:
     def alone(self, words, letter, numbers, values):
         self.ask(words + ":", letter, *numbers)
         self.tell(words + ":", values)
+
+    def packet(self, words, bytes_):
+        """Read on its own."""
+        assert len(bytes_) <= LONGEST_PACKET
+        self.alone(words, "P", (len(bytes_), *bytes_), read_packet(bytes_))
 
     # frames, and a stream's rows
 

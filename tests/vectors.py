@@ -20,14 +20,15 @@ def packet(text):
 
 def sample():
     """What examples/packets.bin has: packets taken and refused, bytes that are none, and one cut short."""
-    good = b"".join(packet(text) for text in (b"A1", b"G+0025000", b"HBM", b"HAM", b"IE", b"KH", b"A4", b"Z"))
+    good = b"".join(packet(text) for text in (b"A1", b"G+0009900", b"G+0025000", b"HBM", b"HAM", b"IE", b"KH", b"A4", b"Z"))
     return good + b"noise\x17" + b"\x01A0"
 
 
 def borders():
-    """Around 41 bytes: the 0x17 behind 40 others, behind 41, none at all, and a rest of 40."""
+    """Around 41 bytes: the 0x17 behind 40 others, behind 41, none at all; packets G around the largest offset that does not need the jam off, and both zeros; and a rest of 40."""
     forty = b"\x01A" + b"0" * 38
-    return (forty + b"\x17") + (forty + b"0" + b"\x17") + (forty + b"0") + forty
+    offsets = b"".join(packet(b"G" + sign + digits) for digits in (b"0009899", b"0009900", b"0009901", b"0010000", b"0000000") for sign in (b"+", b"-"))
+    return (forty + b"\x17") + (forty + b"0" + b"\x17") + (forty + b"0") + offsets + forty
 
 
 def ids():

@@ -15,25 +15,28 @@ use Rattle.card.specs.declared.card.Card.{Card}
 use Rattle.card.specs.declared.card.Answer.{Answer}
 
 abbrev pub withQueue : Card → Queue → Card
-withQueue c v = record { queue = v; clock = c .clock; «time_latch» = c .«time_latch»; event = c .event; settings = c .settings; interrupts = c .interrupts; done = c .done }
+withQueue c v = record { queue = v; clock = c .clock; «time_latch» = c .«time_latch»; event = c .event; settings = c .settings; jam = c .jam; interrupts = c .interrupts; done = c .done }
 
 abbrev pub withClock : Card → Clock → Card
-withClock c v = record { queue = c .queue; clock = v; «time_latch» = c .«time_latch»; event = c .event; settings = c .settings; interrupts = c .interrupts; done = c .done }
+withClock c v = record { queue = c .queue; clock = v; «time_latch» = c .«time_latch»; event = c .event; settings = c .settings; jam = c .jam; interrupts = c .interrupts; done = c .done }
 
 abbrev pub withTimeLatch : Card → List ℕ → Card
-withTimeLatch c v = record { queue = c .queue; clock = c .clock; «time_latch» = v; event = c .event; settings = c .settings; interrupts = c .interrupts; done = c .done }
+withTimeLatch c v = record { queue = c .queue; clock = c .clock; «time_latch» = v; event = c .event; settings = c .settings; jam = c .jam; interrupts = c .interrupts; done = c .done }
 
 abbrev pub withEvent : Card → Event → Card
-withEvent c v = record { queue = c .queue; clock = c .clock; «time_latch» = c .«time_latch»; event = v; settings = c .settings; interrupts = c .interrupts; done = c .done }
+withEvent c v = record { queue = c .queue; clock = c .clock; «time_latch» = c .«time_latch»; event = v; settings = c .settings; jam = c .jam; interrupts = c .interrupts; done = c .done }
 
 abbrev pub withSettings : Card → Settings → Card
-withSettings c v = record { queue = c .queue; clock = c .clock; «time_latch» = c .«time_latch»; event = c .event; settings = v; interrupts = c .interrupts; done = c .done }
+withSettings c v = record { queue = c .queue; clock = c .clock; «time_latch» = c .«time_latch»; event = c .event; settings = v; jam = c .jam; interrupts = c .interrupts; done = c .done }
+
+abbrev pub withJam : Card → Bool → Card
+withJam c v = record { queue = c .queue; clock = c .clock; «time_latch» = c .«time_latch»; event = c .event; settings = c .settings; jam = v; interrupts = c .interrupts; done = c .done }
 
 abbrev pub withInterrupts : Card → Interrupts → Card
-withInterrupts c v = record { queue = c .queue; clock = c .clock; «time_latch» = c .«time_latch»; event = c .event; settings = c .settings; interrupts = v; done = c .done }
+withInterrupts c v = record { queue = c .queue; clock = c .clock; «time_latch» = c .«time_latch»; event = c .event; settings = c .settings; jam = c .jam; interrupts = v; done = c .done }
 
 abbrev pub withDone : Card → Bool → Card
-withDone c v = record { queue = c .queue; clock = c .clock; «time_latch» = c .«time_latch»; event = c .event; settings = c .settings; interrupts = c .interrupts; done = v }
+withDone c v = record { queue = c .queue; clock = c .clock; «time_latch» = c .«time_latch»; event = c .event; settings = c .settings; jam = c .jam; interrupts = c .interrupts; done = v }
 
 -- ANSWERS
 

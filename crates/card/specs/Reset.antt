@@ -1,5 +1,5 @@
 -- Reset, and a fresh card.
-use mathlib.Core.Bool.{false, not}
+use mathlib.Core.Bool.{true, false, not}
 use mathlib.Core.List.{[], _∷_}
 use lib.IntN.{pos}
 use Rattle.wire.specs.Numbers.{_if_}
@@ -19,7 +19,7 @@ use Rattle.card.specs.Cards.{granted}
 use Rattle.parts.specs.Queues.{emptyQueue}
 use Rattle.card.specs.Lawful.{lawful}
 
--- a reset card of a time, with these settings: the clock source becomes internal, the offset 0, all else is cleared
+-- a reset card of a time, with these settings: the clock source becomes internal, the offset 0, the jam on, all else is cleared
 abbrev pub resetCard : Time → Settings → Card
 resetCard t s =
     record {
@@ -28,6 +28,7 @@ resetCard t s =
       «time_latch» = zeroWords;
       event = record { control = 0; latch = zeroWords };
       settings = record { mode = s .mode; format = s .format; modulation = s .modulation; clock = ClockSource.Internal; generator = s .generator; offset = pos 0 };
+      jam = true;
       interrupts = record { mask = 0; pending = 0; level = 0; vector = 0 };
       done = false;
     }

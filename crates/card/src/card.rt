@@ -8,6 +8,7 @@ use parts::settings::Settings;
 
 pub struct Card {
     pub settings: Settings,
+    pub jam: bool,
     pub interrupts: Interrupts,
     pub done: bool,
     pub event: Event,

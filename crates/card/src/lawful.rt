@@ -1,9 +1,11 @@
-// 18: whether a card is lawful: each part answers for its own ranges. The clock is asked first, and the queue, whose test takes longest, last.
+// 18: whether a card is lawful: each part answers for its own ranges, and the settings for the jam beside them. The clock is asked first, and the queue, whose test takes
+// longest, last.
 use crate::card::Card;
 use clock::lawful::clock_fits;
 use parts::event::latches_fit;
 use parts::interrupts::interrupts_fit;
 use parts::queue::queue_fits;
+use parts::settings::jam_fits;
 use parts::settings::settings_fit;
 ghost use mathlib.Core.Path.{_≡_};
 ghost use Rattle.card.specs.Lawful.{restLawful, lawful};
@@ -21,6 +23,9 @@ pub(crate) fn rest_fits(card: Card) -> bool
     }
     let settings = card.settings;
     if !settings_fit(settings) {
+        return false;
+    }
+    if !jam_fits(card.jam, settings) {
         return false;
     }
     let time_latch = card.time_latch;

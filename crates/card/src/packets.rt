@@ -9,6 +9,7 @@ use wire::numbers;
 use wire::packets::PacketRead;
 use wire::packets::read_packet;
 ghost use mathlib.Core.Path.{_≡_};
+ghost use mathlib.Core.Bool.{false};
 ghost use lib.Dec.{eqb};
 ghost use Rattle.wire.specs.Packets.{readPacket};
 ghost use Prim.Native.Nat.{_≤_};
@@ -33,23 +34,34 @@ fn read_queue(q: Queue) -> PacketRead
     read_packet(&bytes[from..fill])
 }
 
-// The queue taken as one packet: a refused one touches no setting.
-fn take(q: Queue, s: Settings) -> Taken
+// A refused packet touches no setting, and leaves the done bit clear.
+fn refused(s: Settings, n: u8) -> Taken
+    ensures { λ r. ⌜ r ≡ record { settings = s; done = false; number = n } ⌝ }
+{
+    Taken {
+        settings: s,
+        done: false,
+        number: n,
+    }
+}
+
+// The queue taken as one packet, with the jam on or off.
+fn take(jam: bool, q: Queue, s: Settings) -> Taken
     requires { ⌜ q .fill ≤ 64 ⌝ }
-    ensures { λ r. ⌜ r ≡ record { settings = settingsTaken q s; done = eqb (ackRefusal q) 0; number = ackRefusal q } ⌝ }
+    ensures { λ r. ⌜ r ≡ record { settings = settingsTaken jam (queued q) s; done = eqb (ackRefusal jam (queued q)) 0; number = ackRefusal jam (queued q) } ⌝ }
 {
     let read = read_queue(q);
     match read {
-        PacketRead::Is(p) => Taken {
-            settings: apply(p, s),
-            done: true,
-            number: numbers::DONE,
+        PacketRead::Is(p, needs_jam_off) => if jam & needs_jam_off {
+            refused(s, numbers::JAM_ON)
+        } else {
+            Taken {
+                settings: apply(p, s),
+                done: true,
+                number: numbers::DONE,
+            }
         },
-        PacketRead::Refused(n) => Taken {
-            settings: s,
-            done: false,
-            number: n,
-        },
+        PacketRead::Refused(n) => refused(s, n),
     }
 }
 
@@ -62,7 +74,7 @@ pub(crate) fn acknowledge(card: Card, value: u16) -> Answer
     if value / 128 % 2 == 1 {
         let q = card.queue;
         let s = card.settings;
-        let t = take(q, s);
+        let t = take(card.jam, q, s);
         let q = empty_queue();
         let s = t.settings;
         c.queue = q;

@@ -48,6 +48,7 @@ fn reset_card(time: Time, settings: Settings) -> Card
             generator: generator,
             offset: 0,
         },
+        jam: true,
         interrupts: Interrupts {
             mask: 0,
             pending: 0,

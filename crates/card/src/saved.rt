@@ -6,19 +6,28 @@ use parts::saved::SettingsRead;
 use parts::saved::load_settings;
 use parts::saved::put_settings;
 use parts::settings::Settings;
+use parts::settings::jam_fits;
 use wire::numbers;
 ghost use mathlib.Core.Path.{_≡_};
 ghost use lib.ListN.{length};
-ghost use Rattle.card.specs.Cards.{withSettings};
-ghost use Rattle.card.specs.Saved.{saveRefusal, rowSaved, load as loaded};
+ghost use Rattle.card.specs.Saved.{saveRefusal, rowSaved, settingsKept, load as loaded};
 
-// The card with other settings.
-fn with_settings(card: Card, settings: Settings) -> Card
-    ensures { λ r. ⌜ r ≡ withSettings card settings ⌝ }
+// The card with other settings: 25 for a large offset with the jam on.
+fn keep_settings(card: Card, settings: Settings) -> Answer
+    ensures { λ r. ⌜ r ≡ settingsKept card settings ⌝ }
 {
     let mut c = card;
+    if !jam_fits(card.jam, settings) {
+        return Answer {
+            card: c,
+            number: numbers::JAM_ON,
+        };
+    }
     c.settings = settings;
-    c
+    Answer {
+        card: c,
+        number: numbers::DONE,
+    }
 }
 
 // A card's settings, saved at the front of a row: 18 for a card that is not lawful, 14 where the row is too short. Places behind them, and the
@@ -33,7 +42,8 @@ pub fn save(card: Card, row: &mut [u8]) -> u8
     put_settings(settings, row)
 }
 
-// The card with the settings that bytes save: 18 for a card that is not lawful, 19 for bytes that are no saved form. Nothing else changes.
+// The card with the settings that bytes save: 18 for a card that is not lawful, 19 for bytes that are no saved form, 25 for a large offset with the jam on. Nothing
+// else changes; the jam stays.
 pub fn load(card: Card, bytes: &[u8]) -> Answer
     ensures { λ r. ⌜ r ≡ loaded card (now (bytes .entry)) ⌝ }
 {
@@ -49,9 +59,6 @@ pub fn load(card: Card, bytes: &[u8]) -> Answer
             card: card,
             number: numbers::NOT_SAVED,
         },
-        SettingsRead::Is(s) => Answer {
-            card: with_settings(card, s),
-            number: numbers::DONE,
-        },
+        SettingsRead::Is(s) => keep_settings(card, s),
     }
 }

@@ -1,13 +1,16 @@
-// Setting the time, the strobe and the periodic output: the clock is set, and answers for its own ranges. Each refused call leaves the card as it was.
+// Setting the time, the strobe and the periodic output, where the clock is set and answers for its own ranges; and switching the jam. Each refused call leaves the card
+// as it was.
 use crate::card::Answer;
 use crate::card::Card;
+use crate::lawful::is_lawful;
 use crate::lawful::rest_fits;
 use clock::setting;
 use clock::setting::Dividers;
 use clock::setting::StrobeAt;
+use parts::settings::jam_fits;
 use wire::numbers;
 ghost use mathlib.Core.Path.{_≡_};
-ghost use Rattle.card.specs.Setting.{setTime, setStrobe, setPeriodic, onClock};
+ghost use Rattle.card.specs.Setting.{setTime, setStrobe, setPeriodic, switchJam, onClock};
 
 // The card with what its clock answered: 18 where it is not lawful elsewhere. A refused clock comes back as it was.
 fn with_clock(card: Card, answer: setting::Answer) -> Answer
@@ -53,4 +56,29 @@ pub fn set_periodic(card: Card, dividers: Dividers) -> Answer
 {
     let clock = card.clock;
     with_clock(card, setting::set_periodic(clock, dividers))
+}
+
+// Switches the jam on or off: 25 for on while a large offset is held. Nothing else changes.
+pub fn switch_jam(card: Card, on: bool) -> Answer
+    ensures { λ r. ⌜ r ≡ switchJam card on ⌝ }
+{
+    let mut c = card;
+    if !is_lawful(card) {
+        return Answer {
+            card: c,
+            number: numbers::UNLAWFUL,
+        };
+    }
+    let settings = card.settings;
+    if !jam_fits(on, settings) {
+        return Answer {
+            card: c,
+            number: numbers::JAM_ON,
+        };
+    }
+    c.jam = on;
+    Answer {
+        card: c,
+        number: numbers::DONE,
+    }
 }

@@ -4,6 +4,7 @@ use Prim.Native.Nat.{ℕ}
 use mathlib.Core.Path.{_≡_, refl, sym, subst}
 use mathlib.Core.Bool.{Bool, true, false}
 use mathlib.Core.List.{List, [], _∷_}
+use lib.Dec.{eqb}
 use lib.ListN.{length}
 use borrow.Author.Tests.{eq-eqb, ne-eqb}
 use Rattle.wire.specs.Digits.{pick}
@@ -17,11 +18,11 @@ use Rattle.parts.specs.Queues.{emptyQueue, queued}
 use Rattle.parts.specs.Settings.{applied}
 use Rattle.card.specs.declared.card.Card.{Card}
 use Rattle.card.specs.Cards.{withQueue, withSettings, withDone}
-use Rattle.card.specs.Packets.{ackRefusal, doneCleared}
+use Rattle.card.specs.Packets.{ackNumber, doneCleared}
 use Rattle.card.specs.Waiting.{cardAfter}
 use Rattle.laws.specs.Calls.{Call, after, Field, among, Same, packetTouches, ackTouches, readTouches, writeTouches, touches}
 use Rattle.laws.specs.Refusals.{Excepted}
-use Rattle.laws.proofs.Outcomes.{Effect, Outcome, found-effect, outcome}
+use Rattle.laws.proofs.Outcomes.{Effect, Outcome, by, found-effect, outcome}
 
 -- a card that stays is the same in every field
 pick-same : {A : Type 0} (t : Bool) (a : A) → pick t a a ≡ a
@@ -51,17 +52,17 @@ unfolding Same among
 refused-touched c = refl
 
 module _ (v : ℕ) (c : Card) where
-  ack-clears : bit 128 v ≡ false → Same (ackTouches v (c .queue)) c (doneCleared v c)
+  ack-clears : bit 128 v ≡ false → Same (ackTouches v c) c (doneCleared v c)
   unfolding ackTouches
   ack-clears b = rw b (done-touched c (bit 1 v))
 
-  ack-takes : bit 128 v ≡ true → ackRefusal (c .queue) ≡ 0 → ackTouches v (c .queue) ≡ Field.done ∷ Field.queue ∷ packetTouches (packetIn (queued (c .queue)))
+  ack-takes : bit 128 v ≡ true → ackNumber c ≡ 0 → ackTouches v c ≡ Field.done ∷ Field.queue ∷ packetTouches (packetIn (queued (c .queue)))
   unfolding ackTouches
-  ack-takes b e = simp (b, eq-eqb (ackRefusal (c .queue)) 0 e)
+  ack-takes b e = simp (b, eq-eqb (ackNumber c) 0 e)
 
-  ack-refuses : bit 128 v ≡ true → (ackRefusal (c .queue) ≡ 0 → ⊥) → ackTouches v (c .queue) ≡ Field.done ∷ Field.queue ∷ []
+  ack-refuses : bit 128 v ≡ true → (ackNumber c ≡ 0 → ⊥) → ackTouches v c ≡ Field.done ∷ Field.queue ∷ []
   unfolding ackTouches
-  ack-refuses b e = simp (b, ne-eqb (ackRefusal (c .queue)) 0 e)
+  ack-refuses b e = simp (b, ne-eqb (ackNumber c) 0 e)
 
 touched : (k : Call) (c d : Card) → Effect c k d → Same (touches k c) c d
 unfolding Same among touches readTouches writeTouches cardAfter
@@ -86,8 +87,9 @@ touched k c d (Effect.sets-periodic s e) = refl
 touched k c d (Effect.waits n row e) = rw (strobe-later (passed (c .clock) n (length row)) (c .clock))
 touched k c d Effect.resets = refl
 touched k c d (Effect.saves row) = refl
-touched k c d (Effect.loads bytes e) = refl
+touched k c d (Effect.loads bytes e j) = refl
 touched k c d (Effect.writes-frame row) = refl
+touched k c d (Effect.switches-jam on j) = refl
 
 excepted : {n : ℕ} (k : Call) (c d : Card) → Excepted k c d n → Same (touches k c) c d
 unfolding touches writeTouches
@@ -102,3 +104,39 @@ by-outcome k c d (Outcome.excepted l x e f) = excepted k c d x
 
 pub frame : (k : Call) (c : Card) → Same (touches k c) c (after k c)
 frame k c = by-outcome k c (after k c) (outcome k c)
+
+-- ---- for single fields: one that no packet sets, and that is no register's, is touched by no reading and no writing
+
+abbrev pub Without : Field → List Field → Type 0
+Without f fs = among fs f ≡ false
+
+without-none : (f : Field) → Without f []
+unfolding among
+without-none f = refl
+
+module _ (f : Field) where
+  pub read-without : Without f (Field.timeLatch ∷ []) → (reg : ℕ) → Without f (readTouches reg)
+  unfolding readTouches
+  read-without t reg = by (Without f) (eqb reg 0) (λ e. t) (λ e. without-none f)
+
+  module _ (d : Without f (Field.done ∷ [])) (q : Without f (Field.done ∷ Field.queue ∷ [])) (h : (p : Packet) → Without f (Field.done ∷ Field.queue ∷ packetTouches p)) where
+    pub ack-without : (v : ℕ) (c : Card) → Without f (ackTouches v c)
+    unfolding ackTouches
+    ack-without v c =
+        by (Without f) (bit 128 v)
+        (λ e. by (λ (fs : List Field). Without f (Field.done ∷ Field.queue ∷ fs)) (eqb (ackNumber c) 0) (λ e. h (packetIn (queued (c .queue)))) (λ e. q))
+        (λ e. by (Without f) (bit 1 v) (λ e. d) (λ e. without-none f))
+
+    -- but for register 0, which latches the time
+    pub write-without : Without f (Field.control ∷ []) → Without f (Field.queue ∷ []) → Without f (Field.mask ∷ []) → Without f (Field.pending ∷ []) → Without f (Field.level ∷ [])
+        → Without f (Field.vector ∷ []) → (reg v : ℕ) (c : Card) → (eqb reg 0 ≡ true → Without f (Field.timeLatch ∷ [])) → Without f (writeTouches reg v c)
+    unfolding writeTouches
+    write-without n b m i l w reg v c t =
+        by (Without f) (eqb reg 0) t
+        (λ e. by (Without f) (eqb reg 11) (λ e. n)
+        (λ e. by (Without f) (eqb reg 12) (λ e. ack-without v c)
+        (λ e. by (Without f) (eqb reg 13) (λ e. b)
+        (λ e. by (Without f) (eqb reg 14) (λ e. m)
+        (λ e. by (Without f) (eqb reg 15) (λ e. i)
+        (λ e. by (Without f) (eqb reg 16) (λ e. l)
+        (λ e. by (Without f) (eqb reg 17) (λ e. w) (λ e. without-none f))))))))

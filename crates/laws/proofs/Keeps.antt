@@ -1,6 +1,6 @@
 -- Every call leaves a lawful card lawful, and a fresh card is: so no chain of calls leads out. By the cases of Outcomes, part by part. Assumes nothing.
 use Prim.Native.Nat.{ℕ, _%_}
-use mathlib.Core.Path.{_≡_, refl, sym, ap, _∙_}
+use mathlib.Core.Path.{_≡_, refl, ap}
 use mathlib.Core.Bool.{Bool, true, false}
 use mathlib.Core.List.{List, [], _∷_}
 use native.Mathlib.Omega.{arith}
@@ -27,23 +27,24 @@ use Rattle.parts.specs.Events.{withLatch, latchLawful, eventLawful}
 use Rattle.parts.specs.Interrupts.{interruptsLawful}
 use Rattle.parts.specs.Pending.{bit}
 use Rattle.parts.specs.Queues.{queueLawful, emptyQueue, queued}
-use Rattle.parts.specs.Settings.{settingsLawful}
+use Rattle.parts.specs.Settings.{settingsLawful, jamFits}
 use Rattle.parts.proofs.event.Laws.{event-parts, event-lawful, read-lawful, zero-lawful}
 use Rattle.parts.proofs.interrupts.Laws.{Ranges, ranges, within}
 use Rattle.parts.proofs.interrupts.Bits.{raised-below, sources-below, cleared-within}
 use Rattle.parts.proofs.queue.Laws.{empty-lawful, enqueued-lawful}
 use Rattle.parts.proofs.saved.RoundTrip.{loaded-lawful}
-use Rattle.parts.proofs.settings.Laws.{settings-lawful, applied-lawful}
+use Rattle.parts.proofs.settings.Laws.{settings-lawful, applied-lawful, applied-jam}
 use Rattle.parts.proofs.settings.Laws as settings
 use Rattle.card.specs.declared.card.Card.{Card}
-use Rattle.card.specs.Cards.{withClock, withTimeLatch, withEvent, withInterrupts, withDone, withQueue, withSettings}
+use Rattle.card.specs.Cards.{withClock, withTimeLatch, withEvent, withInterrupts, withDone, withJam, withQueue, withSettings}
 use Rattle.card.specs.Lawful.{lawful}
 use Rattle.card.specs.Registers.{wordsNow}
 use Rattle.card.specs.Waiting.{waitRefusal, cardAfter}
 use Rattle.card.specs.Reset.{resetCard, freshCard}
 use Rattle.card.proofs.blocks.Laws.{filled-lawful}
 use Rattle.card.proofs.lawful.Laws.{Parts, parts, whole}
-use Rattle.card.proofs.registers.Laws.{time-lawful, words-read, ack-packet}
+use Rattle.card.proofs.Ack.{ack-accepts}
+use Rattle.card.proofs.registers.Laws.{time-lawful, words-read}
 use Rattle.laws.specs.Calls.{Call, after, afterAll}
 use Rattle.laws.specs.Refusals.{Excepted}
 use Rattle.laws.proofs.Outcomes.{Effect, Outcome, by, found-effect, outcome}
@@ -55,26 +56,29 @@ module _ (c : Card) (h : lawful c ≡ true) where
   p = parts c h
 
   pub keeps-clock : (k : Clock) → clockLawful k ≡ true → lawful (withClock c k) ≡ true
-  keeps-clock k e = whole _ (record { interrupts = p .interrupts; event = p .event; timeLatch = p .timeLatch; settings = p .settings; queue = p .queue; clock = e })
+  keeps-clock k e = whole _ (record { interrupts = p .interrupts; event = p .event; timeLatch = p .timeLatch; settings = p .settings; jam = p .jam; queue = p .queue; clock = e })
 
   keeps-time-latch : (ws : List ℕ) → latchLawful ws ≡ true → lawful (withTimeLatch c ws) ≡ true
-  keeps-time-latch ws e = whole _ (record { interrupts = p .interrupts; event = p .event; timeLatch = e; settings = p .settings; queue = p .queue; clock = p .clock })
+  keeps-time-latch ws e = whole _ (record { interrupts = p .interrupts; event = p .event; timeLatch = e; settings = p .settings; jam = p .jam; queue = p .queue; clock = p .clock })
 
   keeps-event : (v : Event) → eventLawful v ≡ true → lawful (withEvent c v) ≡ true
-  keeps-event v e = whole _ (record { interrupts = p .interrupts; event = e; timeLatch = p .timeLatch; settings = p .settings; queue = p .queue; clock = p .clock })
+  keeps-event v e = whole _ (record { interrupts = p .interrupts; event = e; timeLatch = p .timeLatch; settings = p .settings; jam = p .jam; queue = p .queue; clock = p .clock })
 
   keeps-interrupts : (i : Interrupts) → interruptsLawful i ≡ true → lawful (withInterrupts c i) ≡ true
-  keeps-interrupts i e = whole _ (record { interrupts = e; event = p .event; timeLatch = p .timeLatch; settings = p .settings; queue = p .queue; clock = p .clock })
+  keeps-interrupts i e = whole _ (record { interrupts = e; event = p .event; timeLatch = p .timeLatch; settings = p .settings; jam = p .jam; queue = p .queue; clock = p .clock })
 
-  keeps-settings : (s : Settings) → settingsLawful s ≡ true → lawful (withSettings c s) ≡ true
-  keeps-settings s e = whole _ (record { interrupts = p .interrupts; event = p .event; timeLatch = p .timeLatch; settings = e; queue = p .queue; clock = p .clock })
+  keeps-settings : (s : Settings) → settingsLawful s ≡ true → jamFits (c .jam) s ≡ true → lawful (withSettings c s) ≡ true
+  keeps-settings s e j = whole _ (record { interrupts = p .interrupts; event = p .event; timeLatch = p .timeLatch; settings = e; jam = j; queue = p .queue; clock = p .clock })
+
+  keeps-jam : (on : Bool) → jamFits on (c .settings) ≡ true → lawful (withJam c on) ≡ true
+  keeps-jam on j = whole _ (record { interrupts = p .interrupts; event = p .event; timeLatch = p .timeLatch; settings = p .settings; jam = j; queue = p .queue; clock = p .clock })
 
   pub keeps-queue : (q : Queue) → queueLawful q ≡ true → lawful (withQueue c q) ≡ true
-  keeps-queue q e = whole _ (record { interrupts = p .interrupts; event = p .event; timeLatch = p .timeLatch; settings = p .settings; queue = e; clock = p .clock })
+  keeps-queue q e = whole _ (record { interrupts = p .interrupts; event = p .event; timeLatch = p .timeLatch; settings = p .settings; jam = p .jam; queue = e; clock = p .clock })
 
   -- the done bit may be anything
   keeps-done : (done : Bool) → lawful (withDone c done) ≡ true
-  keeps-done done = whole _ (record { interrupts = p .interrupts; event = p .event; timeLatch = p .timeLatch; settings = p .settings; queue = p .queue; clock = p .clock })
+  keeps-done done = whole _ (record { interrupts = p .interrupts; event = p .event; timeLatch = p .timeLatch; settings = p .settings; jam = p .jam; queue = p .queue; clock = p .clock })
 
 -- ---- the event input and the latches
 
@@ -103,6 +107,7 @@ reset-lawful t s e f =
       event = event-lawful _ refl zero-lawful;
       timeLatch = zero-lawful;
       settings = settings.reset-lawful s ClockSource.Internal f;
+      jam = refl;
       queue = empty-lawful;
       clock = Stays.off-lawful t e;
     })
@@ -124,9 +129,11 @@ module _ (c : Card) (h : lawful c ≡ true) where
   kept k d (Effect.writes-control v) = keeps-event c h _ (event-lawful _ (lt-ltb (v % 4) 4 (omega arith)) (event-parts (c .event) (parts c h .event) .1))
   kept k d (Effect.clears-done v e) = by (λ (x : Card). lawful x ≡ true) (bit 1 v) (λ f. keeps-done c h false) (λ f. h)
   kept k d (Effect.takes-packet v b e) =
-      let o = written-read _ _ (reads-in (queued (c .queue)) (sym (ack-packet (c .queue)) ∙ e)) in
+      let a = ack-accepts (c .jam) (queued (c .queue)) e in
+      let o = written-read _ _ _ (reads-in (queued (c .queue)) (a .0)) in
       let q = keeps-queue c h emptyQueue empty-lawful in
-      keeps-done _ (keeps-settings _ q _ (applied-lawful (packetIn (queued (c .queue))) (c .settings) (o .fitting) (o .meant) (parts c h .settings))) true
+      let s = applied-lawful (packetIn (queued (c .queue))) (c .settings) (o .fitting) (o .meant) (parts c h .settings) in
+      keeps-done _ (keeps-settings _ q _ s (applied-jam (packetIn (queued (c .queue))) (c .settings) (c .jam) (a .1) (parts c h .jam))) true
   kept k d (Effect.joins-queue v e) = keeps-queue c h _ (enqueued-lawful (c .queue) (v % 256) e (parts c h .queue))
   kept k d (Effect.joins-block row e) = keeps-queue c h _ (filled-lawful row (c .queue) (parts c h .queue) e)
   kept k d (Effect.writes-mask v) = keeps-interrupts c h _ (within _ (record { mask = omega arith; pending = r .pending; level = r .level }))
@@ -144,8 +151,9 @@ module _ (c : Card) (h : lawful c ≡ true) where
   kept k d (Effect.waits n row e) = keeps-wait c n (length row) h e
   kept k d Effect.resets = reset-lawful (c .clock .time) (c .settings) (time-lawful c h) (parts c h .settings)
   kept k d (Effect.saves row) = h
-  kept k d (Effect.loads bytes e) = keeps-settings c h _ (loaded-lawful bytes e)
+  kept k d (Effect.loads bytes e j) = keeps-settings c h _ (loaded-lawful bytes e) j
   kept k d (Effect.writes-frame row) = h
+  kept k d (Effect.switches-jam on j) = keeps-jam c h on j
 
   excepted : {n : ℕ} (k : Call) (d : Card) → Excepted k c d n → lawful d ≡ true
   excepted k d (Excepted.packet v l b z) = keeps-done _ (keeps-queue c h emptyQueue empty-lawful) false
@@ -167,6 +175,10 @@ fresh-lawful = reset-lawful (freshCard .clock .time) (freshCard .settings) Stays
 pub fresh-queue : freshCard .queue ≡ emptyQueue
 unfolding freshCard
 fresh-queue = refl
+
+pub fresh-jam : freshCard .jam ≡ true
+unfolding freshCard
+fresh-jam = refl
 
 -- any chain of calls from a fresh card, or from another lawful one
 pub keeps-all : (ks : List Call) (c : Card) → lawful c ≡ true → lawful (afterAll ks c) ≡ true

@@ -3,20 +3,15 @@
 use Prim.Native.Nat.{ℕ}
 use mathlib.Core.Path.{_≡_, refl, sym, ap, subst, _∙_}
 use mathlib.Core.Bool.{Bool, true, false}
-use mathlib.Core.List.{List, [], _∷_}
 use mathlib.Core.Logic.{_⊎_, inl, inr}
 use lib.Dec.{eqb}
 use borrow.Author.Tests.{eqb-true}
 use Rattle.wire.specs.Digits.{pick}
 use Rattle.wire.specs.Words.{zeroWords}
-use Rattle.wire.specs.Packets.{packetIn}
+use Rattle.wire.proofs.digits.Laws.{clash}
 use Rattle.wire.specs.declared.packets.Packet.{Packet}
 use Rattle.wire.specs.declared.packets.Packet.the-variants as Packet
-use Rattle.parts.specs.declared.queue.Queue.{Queue}
-use Rattle.parts.specs.Pending.{bit}
-use Rattle.parts.specs.Queues.{queued}
 use Rattle.card.specs.declared.card.Card.{Card}
-use Rattle.card.specs.Packets.{ackRefusal}
 use Rattle.card.specs.declared.card.Answer.{Answer}
 use Rattle.card.specs.declared.registers.Value.{Value}
 use Rattle.card.specs.Cards.{answer, granted, withTimeLatch}
@@ -25,10 +20,9 @@ use Rattle.card.specs.Registers
 use Rattle.card.specs.Registers.{captured, value, wordsNow, readRefusal, readRegister, shown, writeRefusal, writeRegister, written, captures}
 use Rattle.card.specs.Reset
 use Rattle.card.specs.Reset.{resetCard}
-use Rattle.laws.specs.Calls.{Call, after, number, Field, among, Same, packetTouches, ackTouches, readTouches, writeTouches, touches, LatchesTime, LatchesEvent}
-use Rattle.laws.proofs.Outcomes.{by}
+use Rattle.laws.specs.Calls.{Call, after, number, Field, among, Same, packetTouches, readTouches, writeTouches, touches, LatchesTime, LatchesEvent}
 use Rattle.laws.proofs.Refused.{accepted-lawful}
-use Rattle.laws.proofs.Frame.{frame}
+use Rattle.laws.proofs.Frame.{frame, Without, read-without, write-without}
 
 -- WHICH CALLS TOUCH THEM
 
@@ -42,18 +36,7 @@ module _ (k : Call) (c : Card) where
   unfolding Same
   event-same e = ap (λ (d : Card). d .event .latch) (frame k c) ∙ simp e
 
-read-touches : (reg : ℕ) → eqb reg 0 ≡ false → among (readTouches reg) Field.timeLatch ≡ false
-unfolding readTouches among
-read-touches reg e = simp e
-
-read-no-event : (reg : ℕ) → among (readTouches reg) Field.eventLatch ≡ false
-unfolding readTouches among
-read-no-event reg = by (λ (fs : List Field). among fs Field.eventLatch ≡ false) (eqb reg 0) (λ e. refl) (λ e. refl)
-
-abbrev Without : Field → List Field → Type 0
-Without f fs = among fs f ≡ false
-
--- no packet sets a latch, and ACK touches none
+-- no packet sets one
 packet-no-latch : (p : Packet) → Without Field.timeLatch (packetTouches p) × Without Field.eventLatch (packetTouches p)
 unfolding among
 packet-no-latch (Packet.A mode) = (refl, refl)
@@ -62,49 +45,22 @@ packet-no-latch (Packet.H f m) = (refl, refl)
 packet-no-latch (Packet.I s) = (refl, refl)
 packet-no-latch (Packet.K g) = (refl, refl)
 
-without-none : (f : Field) → Without f []
+-- only register 0 touches the time latch, and none the event latch
+read-no-time : (reg : ℕ) → eqb reg 0 ≡ false → Without Field.timeLatch (readTouches reg)
+unfolding readTouches among
+read-no-time reg e = simp e
+
+write-no-time : (reg v : ℕ) (c : Card) → eqb reg 0 ≡ false → Without Field.timeLatch (writeTouches reg v c)
 unfolding among
-without-none f = refl
+write-no-time reg v c z = write-without Field.timeLatch refl refl (λ p. packet-no-latch p .0) refl refl refl refl refl refl reg v c (λ e. clash (sym e ∙ z))
 
-module _ (f : Field) (d : Without f (Field.done ∷ [])) (q : Without f (Field.done ∷ Field.queue ∷ [])) (h : (p : Packet) → Without f (Field.done ∷ Field.queue ∷ packetTouches p)) where
-  ack-without : (v : ℕ) (w : Queue) → Without f (ackTouches v w)
-  unfolding ackTouches
-  ack-without v w =
-      by (Without f) (bit 128 v)
-      (λ e. by (λ (fs : List Field). Without f (Field.done ∷ Field.queue ∷ fs)) (eqb (ackRefusal w) 0) (λ e. h (packetIn (queued w))) (λ e. q))
-      (λ e. by (Without f) (bit 1 v) (λ e. d) (λ e. without-none f))
-
-ack-no-time : (v : ℕ) (w : Queue) → Without Field.timeLatch (ackTouches v w)
+read-no-event : (reg : ℕ) → Without Field.eventLatch (readTouches reg)
 unfolding among
-ack-no-time = ack-without Field.timeLatch refl refl (λ p. packet-no-latch p .0)
+read-no-event = read-without Field.eventLatch refl
 
-ack-no-event : (v : ℕ) (w : Queue) → Without Field.eventLatch (ackTouches v w)
+write-no-event : (reg v : ℕ) (c : Card) → Without Field.eventLatch (writeTouches reg v c)
 unfolding among
-ack-no-event = ack-without Field.eventLatch refl refl (λ p. packet-no-latch p .1)
-
-write-touches : (reg v : ℕ) (w : Queue) → eqb reg 0 ≡ false → Without Field.timeLatch (writeTouches reg v w)
-unfolding writeTouches among
-write-touches reg v w z =
-    simp z
-    (by (Without Field.timeLatch) (eqb reg 11) (λ e. refl)
-    (λ e. by (Without Field.timeLatch) (eqb reg 12) (λ e. ack-no-time v w)
-    (λ e. by (Without Field.timeLatch) (eqb reg 13) (λ e. refl)
-    (λ e. by (Without Field.timeLatch) (eqb reg 14) (λ e. refl)
-    (λ e. by (Without Field.timeLatch) (eqb reg 15) (λ e. refl)
-    (λ e. by (Without Field.timeLatch) (eqb reg 16) (λ e. refl)
-    (λ e. by (Without Field.timeLatch) (eqb reg 17) (λ e. refl) (λ e. refl))))))))
-
-write-no-event : (reg v : ℕ) (w : Queue) → Without Field.eventLatch (writeTouches reg v w)
-unfolding writeTouches among
-write-no-event reg v w =
-    by (Without Field.eventLatch) (eqb reg 0) (λ e. refl)
-    (λ e. by (Without Field.eventLatch) (eqb reg 11) (λ e. refl)
-    (λ e. by (Without Field.eventLatch) (eqb reg 12) (λ e. ack-no-event v w)
-    (λ e. by (Without Field.eventLatch) (eqb reg 13) (λ e. refl)
-    (λ e. by (Without Field.eventLatch) (eqb reg 14) (λ e. refl)
-    (λ e. by (Without Field.eventLatch) (eqb reg 15) (λ e. refl)
-    (λ e. by (Without Field.eventLatch) (eqb reg 16) (λ e. refl)
-    (λ e. by (Without Field.eventLatch) (eqb reg 17) (λ e. refl) (λ e. refl))))))))
+write-no-event reg v c = write-without Field.eventLatch refl refl (λ p. packet-no-latch p .1) refl refl refl refl refl refl reg v c (λ e. refl)
 
 pub time-latching : (k : Call) (c : Card) → (after k c .«time_latch» ≡ c .«time_latch») ⊎ LatchesTime k
 unfolding touches among
@@ -113,12 +69,12 @@ time-latching (Call.read reg) c = go (eqb reg 0) refl
   where
     go : (t : Bool) → eqb reg 0 ≡ t → (after (Call.read reg) c .«time_latch» ≡ c .«time_latch») ⊎ LatchesTime (Call.read reg)
     go true e = inr (subst (λ (r : ℕ). LatchesTime (Call.read r)) (sym (eqb-true reg 0 e)) LatchesTime.reads)
-    go false e = inl (time-same (Call.read reg) c (read-touches reg e))
+    go false e = inl (time-same (Call.read reg) c (read-no-time reg e))
 time-latching (Call.write reg v) c = go (eqb reg 0) refl
   where
     go : (t : Bool) → eqb reg 0 ≡ t → (after (Call.write reg v) c .«time_latch» ≡ c .«time_latch») ⊎ LatchesTime (Call.write reg v)
     go true e = inr (subst (λ (r : ℕ). LatchesTime (Call.write r v)) (sym (eqb-true reg 0 e)) (LatchesTime.writes v))
-    go false e = inl (time-same (Call.write reg v) c (write-touches reg v (c .queue) e))
+    go false e = inl (time-same (Call.write reg v) c (write-no-time reg v c e))
 time-latching (Call.block row) c = inl (time-same (Call.block row) c refl)
 time-latching (Call.edge falling) c = inl (time-same (Call.edge falling) c refl)
 time-latching Call.line c = inl (time-same Call.line c refl)
@@ -129,12 +85,13 @@ time-latching Call.reset c = inr LatchesTime.resets
 time-latching (Call.save row) c = inl (time-same (Call.save row) c refl)
 time-latching (Call.load bytes) c = inl (time-same (Call.load bytes) c refl)
 time-latching (Call.writeFrame row) c = inl (time-same (Call.writeFrame row) c refl)
+time-latching (Call.switchJam on) c = inl (time-same (Call.switchJam on) c refl)
 
 pub event-latching : (k : Call) (c : Card) → (after k c .event .latch ≡ c .event .latch) ⊎ LatchesEvent k
 unfolding touches among
 event-latching (Call.setTime year day hour minute second) c = inl (event-same (Call.setTime year day hour minute second) c refl)
 event-latching (Call.read reg) c = inl (event-same (Call.read reg) c (read-no-event reg))
-event-latching (Call.write reg v) c = inl (event-same (Call.write reg v) c (write-no-event reg v (c .queue)))
+event-latching (Call.write reg v) c = inl (event-same (Call.write reg v) c (write-no-event reg v c))
 event-latching (Call.block row) c = inl (event-same (Call.block row) c refl)
 event-latching (Call.edge falling) c = inr (LatchesEvent.edges falling)
 event-latching Call.line c = inl (event-same Call.line c refl)
@@ -145,6 +102,7 @@ event-latching Call.reset c = inr LatchesEvent.resets
 event-latching (Call.save row) c = inl (event-same (Call.save row) c refl)
 event-latching (Call.load bytes) c = inl (event-same (Call.load bytes) c refl)
 event-latching (Call.writeFrame row) c = inl (event-same (Call.writeFrame row) c refl)
+event-latching (Call.switchJam on) c = inl (event-same (Call.switchJam on) c refl)
 
 -- WHAT THEY ARE LEFT AT
 

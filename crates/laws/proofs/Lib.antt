@@ -1,10 +1,11 @@
--- Laws of all calls together, blocks, IRIG B frames, the continuation of waits, the ends of years, and the page's examples.
+-- Laws of all calls together, blocks, IRIG B frames, the jam, the continuation of waits, the ends of years, and the page's examples.
 pub mod Blocks
 pub mod Demand
 pub mod Examples
 pub mod Fed
 pub mod Frame
 pub mod Irig
+pub mod Jam
 pub mod Keeps
 pub mod Latches
 pub mod Numbers

@@ -12,7 +12,6 @@ use Rattle.wire.specs.Digits.{pick}
 use Rattle.wire.specs.Numbers.{Line, _if_, given, quiet, absent}
 use Rattle.wire.proofs.digits.Laws.{picked, zero-or}
 use Rattle.wire.proofs.numbers.Laws.{given-exactly, given-zero, given-append}
-use Rattle.wire.proofs.packets.Read.{packet-numbered}
 use Rattle.parts.specs.Interrupts.{lineUp}
 use Rattle.parts.specs.Pending.{bit}
 use Rattle.parts.specs.Queues.{queued}
@@ -34,6 +33,7 @@ use Rattle.card.specs.Saved
 use Rattle.card.specs.Saved.{saveRefusal}
 use Rattle.irig.specs.Writing
 use Rattle.card.proofs.blocks.Laws.{block-number}
+use Rattle.card.proofs.Ack.{ack-numbered}
 use Rattle.laws.specs.Calls.{Call, number}
 use Rattle.laws.specs.Refusals.{lines}
 use Rattle.laws.proofs.Outcomes.{by}
@@ -42,7 +42,7 @@ use Rattle.laws.proofs.Outcomes.{by}
 
 module _ (c : Card) (reg v : ℕ) where
   abbrev packet : List Line
-  packet = pick (eqb reg 12 && bit 128 v) (ackLines (c .queue)) []
+  packet = pick (eqb reg 12 && bit 128 v) (ackLines (c .jam) (queued (c .queue))) []
 
   -- no packet is read by another register
   no-packet : eqb reg 12 ≡ false → 0 ≡ given packet
@@ -55,7 +55,7 @@ module _ (c : Card) (reg v : ℕ) where
   unfolding acknowledged ackRefusal
   at-ack e = simp e (picked (λ (a : Answer). a .number) (bit 128 v) _ _ ∙ go (bit 128 v))
     where
-      go : (t : Bool) → pick t (given (ackLines (c .queue))) 0 ≡ given (pick t (ackLines (c .queue)) [])
+      go : (t : Bool) → pick t (given (ackLines (c .jam) (queued (c .queue)))) 0 ≡ given (pick t (ackLines (c .jam) (queued (c .queue))) [])
       go true = refl
       go false = refl
 
@@ -97,7 +97,7 @@ line-table c false e = simp e
 -- ---- all calls
 
 pub number-given : (k : Call) (c : Card) → number k c ≡ given (lines k c)
-unfolding number Setting.setTime Setting.setStrobe Setting.setPeriodic Registers.edge Reset.reset Saved.load saveRefusal Writing.writeRefusal granted readRefusal waitRefusal
+unfolding number Setting.setTime Setting.setStrobe Setting.setPeriodic Setting.switchJam Registers.edge Reset.reset Saved.load saveRefusal Writing.writeRefusal granted readRefusal waitRefusal
 number-given (Call.setTime year day hour minute second) c = refl
 number-given (Call.read reg) c = read-gives c reg
 number-given (Call.write reg v) c = write-number c reg v
@@ -111,12 +111,13 @@ number-given Call.reset c = refl
 number-given (Call.save row) c = refl
 number-given (Call.load bytes) c = refl
 number-given (Call.writeFrame row) c = refl
+number-given (Call.switchJam on) c = refl
 
 -- no line has the number 0
 numbered : (k : Call) (c : Card) → absent 0 (lines k c) ≡ true
 numbered (Call.setTime year day hour minute second) c = refl
 numbered (Call.read reg) c = refl
-numbered (Call.write reg v) c = by (λ (ls : List Line). absent 0 ls ≡ true) (eqb reg 12 && bit 128 v) (λ e. packet-numbered (queued (c .queue))) (λ e. refl)
+numbered (Call.write reg v) c = by (λ (ls : List Line). absent 0 ls ≡ true) (eqb reg 12 && bit 128 v) (λ e. ack-numbered (c .jam) (queued (c .queue))) (λ e. refl)
 numbered (Call.block row) c = refl
 numbered (Call.edge falling) c = refl
 numbered Call.line c = refl
@@ -127,6 +128,7 @@ numbered Call.reset c = refl
 numbered (Call.save row) c = refl
 numbered (Call.load bytes) c = refl
 numbered (Call.writeFrame row) c = refl
+numbered (Call.switchJam on) c = refl
 
 -- 0 is given exactly if no line holds
 pub done-exactly-if : (k : Call) (c : Card) → number k c ≡ 0 ↔ quiet (lines k c) ≡ true

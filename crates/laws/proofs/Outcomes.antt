@@ -17,7 +17,6 @@ use Rattle.wire.specs.Numbers.{_if_, given}
 use Rattle.wire.specs.Packets.{packetIn}
 use Rattle.wire.proofs.numbers.Laws.{given-absent}
 use Rattle.wire.proofs.digits.Laws.{lt-or-le}
-use Rattle.wire.proofs.packets.Read.{packet-number}
 use Rattle.clock.specs.declared.setting.StrobeAt.{StrobeAt}
 use Rattle.clock.specs.declared.setting.Dividers.{Dividers}
 use Rattle.clock.specs.Clocks.{withStrobe, withPeriodic}
@@ -32,12 +31,12 @@ use Rattle.card.specs.declared.waiting.WaitedCard.{WaitedCard}
 use Rattle.parts.specs.Events.{withControl}
 use Rattle.parts.specs.Interrupts.{withMask, withPending, withLevel, withVector, interruptsWritten, lineUp}
 use Rattle.card.specs.Blocks.{writeBlock, free}
-use Rattle.card.specs.Cards.{answer, granted, withClock, withTimeLatch, withEvent, withDone, withInterrupts, withQueue, withSettings}
+use Rattle.card.specs.Cards.{answer, granted, withClock, withTimeLatch, withEvent, withDone, withInterrupts, withJam, withQueue, withSettings}
 use Rattle.card.specs.Lawful.{lawful}
 use Rattle.parts.specs.Pending.{bit, cleared}
 use Rattle.parts.specs.Queues.{emptyQueue, queued, enqueued}
-use Rattle.parts.specs.Settings.{applied}
-use Rattle.card.specs.Packets.{ackRefusal, settingsTaken, taken, doneCleared, acknowledged}
+use Rattle.parts.specs.Settings.{applied, jamFits}
+use Rattle.card.specs.Packets.{ackNumber, settingsTaken, taken, doneCleared, acknowledged}
 use Rattle.card.specs.Registers
 use Rattle.card.specs.Registers.{lastRegister, value, wordsNow, readRefusal, readRegister, shown, writeRefusal, writeRegister, written, captures, captured, lineRefusal, interruptLine}
 use Rattle.card.specs.Setting
@@ -50,7 +49,8 @@ use Rattle.parts.specs.Saved.{meaningful, settingsIn}
 use Rattle.card.specs.Saved.{saveRefusal}
 use Rattle.irig.specs.Writing
 use Rattle.card.proofs.blocks.Laws.{filled, block-18, block-is}
-use Rattle.card.proofs.registers.Laws.{ack-packet, queue-within}
+use Rattle.card.proofs.Ack.{ack-numbers}
+use Rattle.card.proofs.registers.Laws.{queue-within}
 use Rattle.laws.specs.Calls.{Call, after, number}
 use Rattle.laws.specs.Refusals.{Excepted}
 
@@ -63,7 +63,7 @@ pub data Effect (c : Card) : Call → Card → Type 0 where
   requests-time : (v : ℕ) → Effect c (Call.write 0 v) (withTimeLatch c (wordsNow c))
   writes-control : (v : ℕ) → Effect c (Call.write 11 v) (withEvent c (withControl (c .event) (v % 4)))
   clears-done : (v : ℕ) → bit 128 v ≡ false → Effect c (Call.write 12 v) (doneCleared v c)
-  takes-packet : (v : ℕ) → bit 128 v ≡ true → ackRefusal (c .queue) ≡ 0
+  takes-packet : (v : ℕ) → bit 128 v ≡ true → ackNumber c ≡ 0
       → Effect c (Call.write 12 v) (withDone (withSettings (withQueue c emptyQueue) (applied (packetIn (queued (c .queue))) (c .settings))) true)
   joins-queue : (v : ℕ) → c .queue .fill < 64 → Effect c (Call.write 13 v) (withQueue c (enqueued (c .queue) (v % 256)))
   joins-block : (row : List ℕ) → length row ≤ free (c .queue) → Effect c (Call.block row) (withQueue c (filled (c .queue) row))
@@ -80,8 +80,10 @@ pub data Effect (c : Card) : Call → Card → Type 0 where
       → Effect c (Call.wait n row) (cardAfter c (passed (c .clock) n (length row)) (fell (listed (c .clock) n (length row))))
   resets : Effect c Call.reset (resetCard (c .clock .time) (c .settings))
   saves : (row : List ℕ) → Effect c (Call.save row) c
-  loads : (bytes : List ℕ) → eqb (length bytes) 5 && meaningful (unpacked 2 8 bytes) ≡ true → Effect c (Call.load bytes) (withSettings c (settingsIn (unpacked 2 8 bytes)))
+  loads : (bytes : List ℕ) → eqb (length bytes) 5 && meaningful (unpacked 2 8 bytes) ≡ true → jamFits (c .jam) (settingsIn (unpacked 2 8 bytes)) ≡ true
+      → Effect c (Call.load bytes) (withSettings c (settingsIn (unpacked 2 8 bytes)))
   writes-frame : (row : List ℕ) → Effect c (Call.writeFrame row) c
+  switches-jam : (on : Bool) → jamFits on (c .settings) ≡ true → Effect c (Call.switchJam on) (withJam c on)
 
 -- how a call ends: the card afterwards and the number
 pub data Outcome (k : Call) (c : Card) : Card → ℕ → Type 0 where
@@ -98,7 +100,7 @@ by P false f g = g refl
 clash : (t : Bool) → t ≡ true → t ≡ false → ⊥
 clash t e f = let q : _≡_ {A = Bool} true false = sym e ∙ f in let z : _≡_ {A = ℕ} 0 1 = cc in omega arith
 
--- ---- calls refused by 18 and one line more, or by 18 alone
+-- ---- calls refused by 18 and one line more, or two, or by 18 alone
 
 abbrev Ends : Call → Card → Answer → Type 0
 Ends k c a = Outcome k c (a .card) (a .number)
@@ -110,6 +112,13 @@ module _ (k : Call) (c d : Card) where
   one-line n f z e h false l = unlawful l
   one-line n true z e h true l = accepted l (h refl)
   one-line n false z e h true l = by (λ (x : Card). Outcome k c x n) (eqb n 0) (λ q. absurd (clash (eqb n 0) q z)) (λ q. refused l z e)
+
+  two-lines : (n m : ℕ) (f g : Bool) → eqb n 0 ≡ false → eqb n 18 ≡ false → eqb m 0 ≡ false → eqb m 18 ≡ false → (f ≡ true → g ≡ true → Effect c k d) → (known : Bool) → lawful c ≡ known
+      → Ends k c (granted (18 if not known ∷ n if not f ∷ m if not g ∷ []) c d)
+  unfolding granted
+  two-lines n m f g z e y w h false l = unlawful l
+  two-lines n m true g z e y w h true l = one-line m g y w (h refl) true l
+  two-lines n m false g z e y w h true l = by (λ (x : Card). Outcome k c x n) (eqb n 0) (λ q. absurd (clash (eqb n 0) q z)) (λ q. refused l z e)
 
   only-18 : (lawful c ≡ true → Effect c k d) → (known : Bool) → lawful c ≡ known → Ends k c (granted (18 if not known ∷ []) c d)
   unfolding granted
@@ -143,26 +152,26 @@ module _ (c : Card) (v : ℕ) (l : lawful c ≡ true) where
   abbrev Takes : Answer → Type 0
   Takes a = Outcome (Call.write 12 v) c (a .card) (a .number)
 
-  -- a packet of 4 to 10 is neither 0 nor 18
-  not-18 : (ackRefusal (c .queue) ≡ 0 → ⊥) → eqb (ackRefusal (c .queue)) 18 ≡ false
-  not-18 z = ne-eqb _ 18 (λ (e : ackRefusal (c .queue) ≡ 18). let q = packet-number (queued (c .queue)) (λ w. z (ack-packet (c .queue) ∙ w)) in omega (arith, q, ack-packet (c .queue)))
+  -- a packet of 4 to 10 or 25 is neither 0 nor 18
+  not-18 : (ackNumber c ≡ 0 → ⊥) → eqb (ackNumber c) 18 ≡ false
+  not-18 z = ne-eqb _ 18 (λ (e : ackNumber c ≡ 18). ⊎-elim (λ q. omega (arith, q, e)) (λ q. omega (arith, q, e)) (ack-numbers (c .jam) (queued (c .queue)) z))
 
-  take-by : bit 128 v ≡ true → (t : Bool) → eqb (ackRefusal (c .queue)) 0 ≡ t
-      → Takes (answer (withDone (withSettings (withQueue c emptyQueue) (pick t (applied (packetIn (queued (c .queue))) (c .settings)) (c .settings))) t) (ackRefusal (c .queue)))
+  take-by : bit 128 v ≡ true → (t : Bool) → eqb (ackNumber c) 0 ≡ t
+      → Takes (answer (withDone (withSettings (withQueue c emptyQueue) (pick t (applied (packetIn (queued (c .queue))) (c .settings)) (c .settings))) t) (ackNumber c))
   take-by b true e =
-      let z = eqb-true (ackRefusal (c .queue)) 0 e in
+      let z = eqb-true (ackNumber c) 0 e in
       subst (λ (n : ℕ). Outcome (Call.write 12 v) c (withDone (withSettings (withQueue c emptyQueue) (applied (packetIn (queued (c .queue))) (c .settings))) true) n) (sym z)
       (accepted l (takes-packet v b z))
   take-by b false e =
-      let z = eqb-false (ackRefusal (c .queue)) 0 e in
+      let z = eqb-false (ackNumber c) 0 e in
       excepted l (Excepted.packet v l b z) e (not-18 z)
 
   acknowledges : Takes (acknowledged c v)
   unfolding acknowledged settingsTaken
   acknowledges =
       by Takes (bit 128 v)
-      (λ b. by (λ (d : Card). Takes (answer (taken d) (ackRefusal (c .queue)))) (bit 1 v)
-      (λ f. take-by b (eqb (ackRefusal (c .queue)) 0) refl) (λ f. take-by b (eqb (ackRefusal (c .queue)) 0) refl))
+      (λ b. by (λ (d : Card). Takes (answer (taken d) (ackNumber c))) (bit 1 v)
+      (λ f. take-by b (eqb (ackNumber c) 0) refl) (λ f. take-by b (eqb (ackNumber c) 0) refl))
       (λ b. accepted l (clears-done v b))
 
 module _ (c : Card) (reg v : ℕ) where
@@ -289,7 +298,7 @@ wait-by c n row true l false e = refused l e (wait-18 c n (length row) l)
 -- ---- all calls
 
 pub outcome : (k : Call) (c : Card) → Outcome k c (after k c) (number k c)
-unfolding after number Setting.setTime Setting.setStrobe Setting.setPeriodic readRegister writeRegister Registers.edge Registers.line lineRefusal Waiting.wait Reset.reset Saved.load saveRefusal Writing.writeRefusal
+unfolding after number Setting.setTime Setting.setStrobe Setting.setPeriodic Setting.switchJam readRegister writeRegister Registers.edge Registers.line lineRefusal Waiting.wait Reset.reset Saved.load saveRefusal Writing.writeRefusal
 outcome (Call.setTime year day hour minute second) c =
     one-line _ c _ 11 (dateFits year day hour minute second) refl refl (sets-time year day hour minute second) (lawful c) refl
 outcome (Call.read reg) c = read-by c reg (lawful c) refl
@@ -308,5 +317,7 @@ outcome (Call.wait n row) c =
     (λ e. wait-by c n row (lawful c) refl false e)
 outcome Call.reset c = only-18 _ c _ (λ l. resets) (lawful c) refl
 outcome (Call.save row) c = room-by _ c (length row) 5 (saves row) (lawful c) refl
-outcome (Call.load bytes) c = one-line _ c _ 19 (eqb (length bytes) 5 && meaningful (unpacked 2 8 bytes)) refl refl (loads bytes) (lawful c) refl
+outcome (Call.load bytes) c =
+    two-lines _ c _ 19 25 (eqb (length bytes) 5 && meaningful (unpacked 2 8 bytes)) (jamFits (c .jam) (settingsIn (unpacked 2 8 bytes))) refl refl refl refl (loads bytes) (lawful c) refl
 outcome (Call.writeFrame row) c = room-by _ c (length row) 100 (writes-frame row) (lawful c) refl
+outcome (Call.switchJam on) c = one-line _ c _ 25 (jamFits on (c .settings)) refl refl (switches-jam on) (lawful c) refl

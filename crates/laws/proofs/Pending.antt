@@ -91,8 +91,9 @@ four c d k l (Effect.waits n row e) h =
     ∙ h
 four c d k l Effect.resets h = absurd (let z : _≡_ {A = ℕ} 0 1 = cc in omega arith)
 four c d k l (Effect.saves row) h = h
-four c d k l (Effect.loads bytes e) h = h
+four c d k l (Effect.loads bytes e j) h = h
 four c d k l (Effect.writes-frame row) h = h
+four c d k l (Effect.switches-jam on j) h = h
 
 four-excepted : {n : ℕ} (k : Call) (c d : Card) → Excepted k c d n → pendingBit 4 d ≡ true → pendingBit 4 c ≡ true
 four-excepted k c d (Excepted.packet v l b z) h = h

@@ -20,7 +20,7 @@ use Rattle.card.specs.declared.card.Card.{Card}
 use Rattle.card.specs.declared.card.Answer.{Answer}
 use Rattle.card.specs.Cards.{answer, withTimeLatch, withEvent, withInterrupts, withDone}
 use Rattle.card.specs.Lawful.{lawful}
-use Rattle.card.specs.Packets.{ackRefusal, settingsTaken, acknowledged}
+use Rattle.card.specs.Packets.{ackNumber, settingsTaken, acknowledged}
 use Rattle.card.specs.Registers.{value, wordsNow, readRefusal, readRegister, shown, writeRefusal, writeRegister, written, captures}
 use Rattle.card.specs.Reset.{resetCard}
 use Rattle.card.proofs.registers.Laws.{time-lawful, words-read}
@@ -169,10 +169,10 @@ module _ (c : Card) (v : ℕ) where
   unfolding number after acknowledged settingsTaken
   ack-takes e b =
       let w = acks (accepted-lawful (Call.write 12 v) c e) in
-      let z : ackRefusal (c .queue) ≡ 0 = sym (ap (λ (a : Answer). a .number) w ∙ rw b) ∙ e in
+      let z : ackNumber c ≡ 0 = sym (ap (λ (a : Answer). a .number) w ∙ rw b) ∙ e in
       go w z (bit 1 v) refl
     where
-      go : writeRegister c 12 v ≡ acknowledged c v → ackRefusal (c .queue) ≡ 0 → (t : Bool) → bit 1 v ≡ t
+      go : writeRegister c 12 v ≡ acknowledged c v → ackNumber c ≡ 0 → (t : Bool) → bit 1 v ≡ t
           → (writeRegister c 12 v .card .settings ≡ applied (packetIn (queued (c .queue))) (c .settings)) × (writeRegister c 12 v .card .queue ≡ emptyQueue) × (writeRegister c 12 v .card .done ≡ true)
       go w z true f = rw w (rw (b, f) (rw z (refl, refl, refl)))
       go w z false f = rw w (rw (b, f) (rw z (refl, refl, refl)))

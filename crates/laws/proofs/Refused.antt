@@ -12,7 +12,6 @@ use lib.ListN.{length}
 use borrow.Author.Tests.{eqb-false, eqb-true}
 use Rattle.wire.specs.Digits.{pick}
 use Rattle.wire.proofs.digits.Laws.{clash, lt-or-le}
-use Rattle.wire.proofs.packets.Read.{packet-number}
 use Rattle.card.specs.declared.card.Card.{Card}
 use Rattle.card.specs.declared.blocks.BlockAnswer.{BlockAnswer}
 use Rattle.card.specs.Blocks.{writeBlock, free}
@@ -26,7 +25,7 @@ use Rattle.card.specs.Waiting.{waitRefusal, rowWaited}
 use Rattle.card.specs.Saved.{saveRefusal, rowSaved}
 use Rattle.irig.specs.Writing
 use Rattle.card.proofs.blocks.Laws.{block-18, block-is, block-accepts}
-use Rattle.card.proofs.registers.Laws.{ack-packet}
+use Rattle.card.proofs.Ack.{ack-numbers}
 use Rattle.laws.specs.Calls.{Call, after, number, values, lent, left}
 use Rattle.laws.specs.Refusals.{Excepted, beside}
 use Rattle.laws.proofs.Outcomes.{Outcome, outcome}
@@ -42,12 +41,10 @@ by-outcome k c (Outcome.excepted l x e f) h = inr x
 pub refused : (k : Call) (c : Card) → (number k c ≡ 0 → ⊥) → (after k c ≡ c) ⊎ Excepted k c (after k c) (number k c)
 refused k c = by-outcome k c (outcome k c)
 
--- a packet is refused by 4 to 10, a block by 3
-pub excepted-number : {d : Card} {n : ℕ} (k : Call) (c : Card) → Excepted k c d n → ((4 ≤ n) × (n ≤ 10)) ⊎ ((n ≡ 3) × (k ≡ Call.block (lent k)))
+-- a packet is refused by 4 to 10 or 25, a block by 3
+pub excepted-number : {d : Card} {n : ℕ} (k : Call) (c : Card) → Excepted k c d n → (((4 ≤ n) × (n ≤ 10)) ⊎ (n ≡ 25)) ⊎ ((n ≡ 3) × (k ≡ Call.block (lent k)))
 unfolding lent
-excepted-number k c (Excepted.packet v l b z) =
-    let q = packet-number (queued (c .queue)) (λ w. z (ack-packet (c .queue) ∙ w)) in
-    inl (rw (ack-packet (c .queue)) q)
+excepted-number k c (Excepted.packet v l b z) = inl (ack-numbers (c .jam) (queued (c .queue)) z)
 excepted-number k c (Excepted.block row l r f) = inr (refl, refl)
 
 -- ---- 18
@@ -123,6 +120,7 @@ values-beside Call.reset c h = refl
 values-beside (Call.save row) c h = refl
 values-beside (Call.load bytes) c h = refl
 values-beside (Call.writeFrame row) c h = refl
+values-beside (Call.switchJam on) c h = refl
 
 -- every lent row beside a refusal
 pub row-stays : (k : Call) (c : Card) → (number k c ≡ 0 → ⊥) → left k c ≡ lent k
@@ -140,3 +138,4 @@ row-stays Call.reset c h = refl
 row-stays (Call.save row) c h = row-beside (saveRefusal c (length row)) _ row _ refl h
 row-stays (Call.load bytes) c h = refl
 row-stays (Call.writeFrame row) c h = row-beside (Writing.writeRefusal c (length row)) _ row _ refl h
+row-stays (Call.switchJam on) c h = refl

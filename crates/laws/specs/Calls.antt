@@ -1,5 +1,5 @@
--- All calls that take a card, in the page's order, and writing a frame behind them (the wait in place is the wait, by its contract; `is_lawful` tells and changes
--- nothing): the card afterwards, the number and the values given back, the lent row afterwards, and, in this one place, the fields that each may touch.
+-- All calls that take a card, in the page's order, and writing a frame and switching the jam behind them (the wait in place is the wait, by its contract; `is_lawful`
+-- tells and changes nothing): the card afterwards, the number and the values given back, the lent row afterwards, and, in this one place, the fields that each may touch.
 use Prim.Native.Nat.{ℕ, _^_}
 use mathlib.Core.Path.{_≡_}
 use mathlib.Core.Bool.{Bool, false, _||_}
@@ -12,11 +12,10 @@ use Rattle.wire.specs.declared.packets.Packet.{Packet}
 use Rattle.wire.specs.declared.packets.Packet.the-variants as Packet
 use Rattle.clock.specs.declared.setting.StrobeAt.{StrobeAt}
 use Rattle.clock.specs.declared.setting.Dividers.{Dividers}
-use Rattle.parts.specs.declared.queue.Queue.{Queue}
 use Rattle.parts.specs.Pending.{bit}
 use Rattle.parts.specs.Queues.{queued}
 use Rattle.card.specs.declared.card.Card.{Card}
-use Rattle.card.specs.Packets.{ackRefusal}
+use Rattle.card.specs.Packets.{ackNumber}
 use Rattle.card.specs.declared.registers.InterruptLine.{InterruptLine}
 use Rattle.card.specs.declared.waiting.Waited.{Waited}
 use Rattle.card.specs.Registers
@@ -42,6 +41,7 @@ pub data Call : Type 0 where
   save : (row : List ℕ) → Call
   load : (bytes : List ℕ) → Call
   writeFrame : (row : List ℕ) → Call
+  switchJam : (on : Bool) → Call
 
 -- the card afterwards; the line, saving and writing a frame take the card and do not give it back
 unfoldable pub after : Call → Card → Card
@@ -58,6 +58,7 @@ after Call.reset c = Reset.reset c .card
 after (Call.save row) c = c
 after (Call.load bytes) c = Saved.load c bytes .card
 after (Call.writeFrame row) c = c
+after (Call.switchJam on) c = Setting.switchJam c on .card
 
 -- the number given back
 unfoldable pub number : Call → Card → ℕ
@@ -74,6 +75,7 @@ number Call.reset c = Reset.reset c .number
 number (Call.save row) c = Saved.saveRefusal c (length row)
 number (Call.load bytes) c = Saved.load c bytes .number
 number (Call.writeFrame row) c = Writing.writeRefusal c (length row)
+number (Call.switchJam on) c = Setting.switchJam c on .number
 
 -- the values given back beside card and number
 abbrev lineValues : InterruptLine → List ℕ
@@ -96,6 +98,7 @@ values Call.reset c = []
 values (Call.save row) c = []
 values (Call.load bytes) c = []
 values (Call.writeFrame row) c = []
+values (Call.switchJam on) c = []
 
 -- the row that a call is lent, and what it leaves in it
 unfoldable pub lent : Call → List ℕ
@@ -112,6 +115,7 @@ lent Call.reset = []
 lent (Call.save row) = row
 lent (Call.load bytes) = bytes
 lent (Call.writeFrame row) = row
+lent (Call.switchJam on) = []
 
 unfoldable pub left : Call → Card → List ℕ
 left (Call.setTime year day hour minute second) c = []
@@ -127,11 +131,12 @@ left Call.reset c = []
 left (Call.save row) c = Saved.rowSaved c row
 left (Call.load bytes) c = bytes
 left (Call.writeFrame row) c = Writing.rowWritten c row
+left (Call.switchJam on) c = []
 
 -- FIELDS
 
 pub data Field : Type 0 where
-  queue time strobe periodic timeLatch control eventLatch mode format modulation clockSource generator offset mask pending level vector done : Field
+  queue time strobe periodic timeLatch control eventLatch mode format modulation clockSource generator offset jam mask pending level vector done : Field
 
 -- fields are told apart by their place in the card
 abbrev place : Field → ℕ
@@ -148,11 +153,12 @@ place Field.modulation = 9
 place Field.clockSource = 10
 place Field.generator = 11
 place Field.offset = 12
-place Field.mask = 13
-place Field.pending = 14
-place Field.level = 15
-place Field.vector = 16
-place Field.done = 17
+place Field.jam = 13
+place Field.mask = 14
+place Field.pending = 15
+place Field.level = 16
+place Field.vector = 17
+place Field.done = 18
 
 unfoldable pub among : List Field → Field → Bool
 among [] f = false
@@ -180,6 +186,7 @@ Same fs c d = d ≡ record {
     generator = pick (among fs Field.generator) (d .settings .generator) (c .settings .generator);
     offset = pick (among fs Field.offset) (d .settings .offset) (c .settings .offset);
   };
+  jam = pick (among fs Field.jam) (d .jam) (c .jam);
   interrupts = record {
     mask = pick (among fs Field.mask) (d .interrupts .mask) (c .interrupts .mask);
     pending = pick (among fs Field.pending) (d .interrupts .pending) (c .interrupts .pending);
@@ -200,9 +207,9 @@ packetTouches (Packet.I s) = Field.clockSource ∷ []
 packetTouches (Packet.K g) = Field.generator ∷ []
 
 -- ACK: the done bit, by bit 0 or bit 7; by bit 7 the queue, and what an accepted packet sets
-unfoldable pub ackTouches : ℕ → Queue → List Field
-ackTouches v q =
-    pick (bit 128 v) (Field.done ∷ Field.queue ∷ pick (eqb (ackRefusal q) 0) (packetTouches (packetIn (queued q))) [])
+unfoldable pub ackTouches : ℕ → Card → List Field
+ackTouches v c =
+    pick (bit 128 v) (Field.done ∷ Field.queue ∷ pick (eqb (ackNumber c) 0) (packetTouches (packetIn (queued (c .queue)))) [])
     (pick (bit 1 v) (Field.done ∷ [])
     [])
 
@@ -210,11 +217,11 @@ ackTouches v q =
 unfoldable pub readTouches : ℕ → List Field
 readTouches reg = pick (eqb reg 0) (Field.timeLatch ∷ []) []
 
-unfoldable pub writeTouches : ℕ → ℕ → Queue → List Field
-writeTouches reg v q =
+unfoldable pub writeTouches : ℕ → ℕ → Card → List Field
+writeTouches reg v c =
     pick (eqb reg 0) (Field.timeLatch ∷ [])
     (pick (eqb reg 11) (Field.control ∷ [])
-    (pick (eqb reg 12) (ackTouches v q)
+    (pick (eqb reg 12) (ackTouches v c)
     (pick (eqb reg 13) (Field.queue ∷ [])
     (pick (eqb reg 14) (Field.mask ∷ [])
     (pick (eqb reg 15) (Field.pending ∷ [])
@@ -226,7 +233,7 @@ writeTouches reg v q =
 unfoldable pub touches : Call → Card → List Field
 touches (Call.setTime year day hour minute second) c = Field.time ∷ []
 touches (Call.read reg) c = readTouches reg
-touches (Call.write reg v) c = writeTouches reg v (c .queue)
+touches (Call.write reg v) c = writeTouches reg v c
 touches (Call.block row) c = Field.queue ∷ []
 touches (Call.edge falling) c = Field.eventLatch ∷ Field.pending ∷ []
 touches Call.line c = []
@@ -234,10 +241,11 @@ touches (Call.setStrobe s) c = Field.strobe ∷ []
 touches (Call.setPeriodic d) c = Field.periodic ∷ []
 touches (Call.wait n row) c = Field.time ∷ Field.pending ∷ Field.periodic ∷ []
 touches Call.reset c =
-    Field.clockSource ∷ Field.offset ∷ Field.timeLatch ∷ Field.eventLatch ∷ Field.control ∷ Field.mask ∷ Field.pending ∷ Field.level ∷ Field.vector ∷ Field.done ∷ Field.queue ∷ Field.strobe ∷ Field.periodic ∷ []
+    Field.clockSource ∷ Field.offset ∷ Field.jam ∷ Field.timeLatch ∷ Field.eventLatch ∷ Field.control ∷ Field.mask ∷ Field.pending ∷ Field.level ∷ Field.vector ∷ Field.done ∷ Field.queue ∷ Field.strobe ∷ Field.periodic ∷ []
 touches (Call.save row) c = []
 touches (Call.load bytes) c = Field.mode ∷ Field.format ∷ Field.modulation ∷ Field.clockSource ∷ Field.generator ∷ Field.offset ∷ []
 touches (Call.writeFrame row) c = []
+touches (Call.switchJam on) c = Field.jam ∷ []
 
 -- THE LATCHES
 
@@ -250,6 +258,13 @@ pub data LatchesTime : Call → Type 0 where
 pub data LatchesEvent : Call → Type 0 where
   edges : (falling : Bool) → LatchesEvent (Call.edge falling)
   resets : LatchesEvent Call.reset
+
+-- THE JAM
+
+-- the calls that may leave the jam other than it was
+pub data SwitchesJam : Call → Type 0 where
+  switches : (on : Bool) → SwitchesJam (Call.switchJam on)
+  resets : SwitchesJam Call.reset
 
 -- PENDING BITS
 

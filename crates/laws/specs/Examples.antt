@@ -1,10 +1,11 @@
 -- The page's starred examples, one table, of what the public contracts name.
 use Prim.Native.Nat.{ℕ, _≤_}
 use mathlib.Core.Path.{_≡_}
-use mathlib.Core.Bool.{true}
+use mathlib.Core.Bool.{true, false}
 use mathlib.Core.List.{List, [], _∷_, _++_, map}
 use lib.IntN.{pos}
 use lib.ListN.{length, drop}
+use Rattle.wire.specs.Digits.{pick}
 use Rattle.wire.specs.Time.{tickAt}
 use Rattle.wire.specs.Words.{timeRead, writeWords, readWords}
 use Rattle.wire.specs.Packets.{readPacket}
@@ -22,12 +23,16 @@ use Rattle.clock.specs.declared.setting.Dividers.the-variants as Dividers
 use Rattle.clock.specs.Time.{instant}
 use Rattle.parts.specs.declared.settings.Settings.{Settings}
 use Rattle.card.specs.declared.card.Card.{Card}
+use Rattle.parts.specs.Queues.{emptyQueue}
+use Rattle.parts.specs.Settings.{jamFits}
+use Rattle.card.specs.Cards.{answer, withSettings}
 use Rattle.card.specs.Lawful.{lawful}
+use Rattle.card.specs.Registers.{writeRegister}
 use Rattle.card.specs.Waiting
 use Rattle.card.specs.Waiting.{rowWaited}
 use Rattle.card.specs.Reset.{freshCard}
-use Rattle.card.specs.Saved.{saveRefusal, rowSaved}
-use Rattle.laws.specs.Calls.{Call, afterAll}
+use Rattle.card.specs.Saved.{saveRefusal, rowSaved, load}
+use Rattle.laws.specs.Calls.{Call, afterAll, fed}
 
 -- bytes written to FIFO, one by one, and then 0x80 to ACK
 abbrev pub puts : List ℕ → List Call
@@ -65,7 +70,9 @@ pub data Example : Type 0 where
   unread : List ℕ → ℕ → Example
   -- bytes, and what they read as
   packet : List ℕ → PacketRead → Example
-  -- settings, calls by which a fresh card comes to have them, and their five bytes, of any lawful card that has them
+  -- bytes, and the number that ACK gives them, put into the empty queue of any lawful card, with the jam on and with it off
+  taken : List ℕ → (on off : ℕ) → Example
+  -- settings, calls by which a fresh card comes to have them, and their five bytes, saved by any lawful card that has them, and loaded by any
   saved : Settings → List Call → List ℕ → Example
   -- a wait of 10,000,000 ticks, of any such card, and that there is one
   wait : Wait → Example
@@ -76,10 +83,12 @@ Stated (words day hour minute second fraction tick ws) =
     (tickAt hour minute second fraction ≡ tick) × (writeWords day tick ≡ record { number = 0; words = ws }) × (readWords ws ≡ timeRead 0 day tick)
 Stated (unread ws n) = readWords ws ≡ timeRead n 0 0
 Stated (packet bytes r) = readPacket bytes ≡ r
+Stated (taken bytes on off) = (c : Card) → lawful c ≡ true → c .queue ≡ emptyQueue → writeRegister (fed c bytes) 12 0x80 .number ≡ pick (c .jam) on off
 Stated (saved s ks bytes) =
     (lawful (afterAll ks freshCard) ≡ true)
     × (afterAll ks freshCard .settings ≡ s)
     × ((c : Card) → lawful c ≡ true → c .settings ≡ s → (row : List ℕ) → 5 ≤ length row → (saveRefusal c (length row) ≡ 0) × (rowSaved c row ≡ bytes ++ drop 5 row))
+    × ((c : Card) → lawful c ≡ true → load c bytes ≡ pick (jamFits (c .jam) s) (answer (withSettings c s) 0) (answer c 25))
 Stated (wait l) = PageCard (l .ms) (pageCard (l .ms)) × ((c : Card) → PageCard (l .ms) c → Says l c)
 
 -- THE TABLE
@@ -91,21 +100,24 @@ waits =
     ∷ record { ms = 400; places = 8; row = 32000003 ∷ 64000001 ∷ 80000004 ∷ []; passed = 10000000; count = 2000000; pending = 14 }
     ∷ []
 
--- mode 0, format B, D, internal, generator B, +25,000; set by packets H and G
+-- the packet of +25,000
+abbrev pub offsetBytes : List ℕ
+offsetBytes = 0x01 ∷ 0x47 ∷ 0x2B ∷ 0x30 ∷ 0x30 ∷ 0x32 ∷ 0x35 ∷ 0x30 ∷ 0x30 ∷ 0x30 ∷ 0x17 ∷ []
+
+-- mode 0, format B, D, internal, generator B, +25,000; set by packets H and G, with the jam off
 abbrev pub pageSettings : Settings
 pageSettings = record { mode = 0; format = Format.B; modulation = Modulation.D; clock = ClockSource.Internal; generator = Generator.B; offset = pos 25000 }
 
 abbrev pub pageCalls : List Call
-pageCalls =
-    puts (0x01 ∷ 0x48 ∷ 0x42 ∷ 0x44 ∷ 0x17 ∷ [])
-    ++ puts (0x01 ∷ 0x47 ∷ 0x2B ∷ 0x30 ∷ 0x30 ∷ 0x32 ∷ 0x35 ∷ 0x30 ∷ 0x30 ∷ 0x30 ∷ 0x17 ∷ [])
+pageCalls = Call.switchJam false ∷ (puts (0x01 ∷ 0x48 ∷ 0x42 ∷ 0x44 ∷ 0x17 ∷ []) ++ puts offsetBytes)
 
 abbrev pub page : List Example
 page =
     words 45 13 7 9 1234567 472291234567 (0x0000 ∷ 0x4513 ∷ 0x0709 ∷ 0x1234 ∷ 0x5670 ∷ [])
     ∷ unread (0x0000 ∷ 0x45A3 ∷ 0x0709 ∷ 0x1234 ∷ 0x5670 ∷ []) 17
     ∷ unread (0x0000 ∷ 0x4524 ∷ 0x0709 ∷ 0x1234 ∷ 0x5670 ∷ []) 11
-    ∷ packet (0x01 ∷ 0x47 ∷ 0x2B ∷ 0x30 ∷ 0x30 ∷ 0x32 ∷ 0x35 ∷ 0x30 ∷ 0x30 ∷ 0x30 ∷ 0x17 ∷ []) (PacketRead.Is (Packet.G (pos 25000)))
+    ∷ packet offsetBytes (PacketRead.Is (Packet.G (pos 25000)) true)
+    ∷ taken offsetBytes 25 0
     ∷ packet (0x01 ∷ 0x17 ∷ []) (PacketRead.Refused 7)
     ∷ packet (0x01 ∷ 0x41 ∷ 0x34 ∷ 0x17 ∷ []) (PacketRead.Refused 10)
     ∷ packet (0x01 ∷ 0x48 ∷ 0x41 ∷ 0x4D ∷ 0x17 ∷ []) (PacketRead.Refused 10)

@@ -7,10 +7,11 @@ use mathlib.Core.Logic.{_⊎_}
 use lib.ListN.{length, take, drop, getD, replicate}
 use lib.Dec.{leb, ltb, eqb}
 use Rattle.wire.specs.Digits.{pick, digits, num, below}
-use Rattle.wire.specs.Packets.{ascii, has, packetRefusal}
+use Rattle.wire.specs.Packets.{ascii, has}
 use Rattle.parts.specs.declared.queue.Queue.{Queue}
 use Rattle.parts.specs.Queues.{queued}
 use Rattle.card.specs.declared.card.Card.{Card}
+use Rattle.card.specs.Packets.{ackRefusal}
 use Rattle.card.specs.Registers.{writeRegister}
 use Rattle.card.specs.Reset.{freshCard}
 use Rattle.laws.specs.Calls.{fed}
@@ -185,10 +186,10 @@ pub record Cut (input : List ℕ) (ps : List (List ℕ)) (left : List ℕ) : Typ
   pub each : Each Piece ps
   pub uncut : Uncut left
 
--- the lines of pieces, numbered from n on, each with the number that the table of packets gives
+-- the lines of pieces, numbered from n on, each with the number that the table of ACK gives on a card with the jam on
 unfoldable pub tableLines : ℕ → List (List ℕ) → List ℕ
 tableLines n [] = []
-tableLines n (p ∷ ps) = line n (packetRefusal p) ++ tableLines (suc n) ps
+tableLines n (p ∷ ps) = line n (ackRefusal true p) ++ tableLines (suc n) ps
 
 -- WITHIN THE CRATE
 

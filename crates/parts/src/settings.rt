@@ -1,4 +1,4 @@
-// The settings: what packets set, and what is saved.
+// The settings: what packets set, and what is saved; and whether the jam may stand beside them.
 use wire::packets::ClockSource;
 use wire::packets::Format;
 use wire::packets::Generator;
@@ -6,9 +6,10 @@ use wire::packets::Modulation;
 use wire::packets::Packet;
 use wire::packets::mode_means;
 use wire::packets::offset_fits;
+use wire::packets::offset_large;
 use wire::packets::pair_means;
 ghost use mathlib.Core.Path.{_≡_};
-ghost use Rattle.parts.specs.Settings.{settingsLawful, applied};
+ghost use Rattle.parts.specs.Settings.{settingsLawful, jamFits, applied};
 
 pub struct Settings {
     pub mode: u8,
@@ -35,6 +36,16 @@ pub fn settings_fit(s: Settings) -> bool
         return false;
     }
     offset_fits(s.offset)
+}
+
+// Whether the jam, on or off, may stand beside settings: not on beside a large offset.
+pub fn jam_fits(jam: bool, s: Settings) -> bool
+    ensures { λ r. ⌜ r ≡ jamFits jam s ⌝ }
+{
+    if jam {
+        return !offset_large(s.offset);
+    }
+    true
 }
 
 // The settings with what a packet says.

@@ -7,6 +7,7 @@ use crate::cards::modulation_of;
 use crate::cards::offset_of;
 use crate::frames::called_frame;
 use crate::frames::put_read;
+use crate::packets::told_reading_alone;
 use card::blocks::write_block;
 use card::card::Answer;
 use card::card::Card;
@@ -20,6 +21,7 @@ use card::saved::save;
 use card::setting::set_periodic;
 use card::setting::set_strobe;
 use card::setting::set_time;
+use card::setting::switch_jam;
 use card::waiting::WaitedCard;
 use card::waiting::wait;
 use cases::byte_at;
@@ -209,6 +211,7 @@ fn called_alone(call: u8, text: &[u8]) {
         b'g' => put_read(read_words(five_at(text))),
         b'c' => told_nearest(nearest_pair(number_at(text, 1))),
         b'u' => told_nearest(nearest_pair(wide_at(text, 1, 2))),
+        b'P' => told_reading_alone(text),
         _ => told_packet(packet_of(call, text), count_at(text, 12)),
     }
 }
@@ -234,6 +237,7 @@ fn called_card(call: u8, card: Card, text: &[u8]) -> Card {
         b'b' => told_block(card, text),
         b'e' => told(input_edge(card, byte_at(text, 1) == 1)),
         b'l' => told_line(card),
+        b'j' => told(switch_jam(card, byte_at(text, 1) == 1)),
         b'x' => told(reset(card)),
         b'p' => told_save(card, text),
         b'o' => told_load(card, text),
@@ -243,7 +247,7 @@ fn called_card(call: u8, card: Card, text: &[u8]) -> Card {
 
 pub(crate) fn called(call: u8, card: Card, text: &[u8]) -> Card {
     match call {
-        b'A' | b'G' | b'H' | b'J' | b'K' | b'f' | b'g' | b'c' | b'u' => {
+        b'A' | b'G' | b'H' | b'J' | b'K' | b'f' | b'g' | b'c' | b'u' | b'P' => {
             called_alone(call, text);
             card
         }

@@ -50,7 +50,11 @@ pub(crate) fn offset_of(n: u8) -> i32 {
         4 => 10_000_000,
         5 => -10_000_000,
         6 => 2_147_483_647,
-        _ => -2_000_000_000,
+        7 => -2_000_000_000,
+        8 => 9_900,
+        9 => -9_900,
+        10 => 9_901,
+        _ => -9_901,
     }
 }
 
@@ -169,6 +173,12 @@ fn with_settings(card: Card, text: &[u8]) -> Card {
     c
 }
 
+fn with_jam(card: Card, text: &[u8]) -> Card {
+    let mut c = card;
+    c.jam = byte_at(text, 1) == 1;
+    c
+}
+
 // A queue of so many bytes, all zero but the one at a place.
 fn with_queue(card: Card, text: &[u8]) -> Card {
     let mut bytes = [0u8; 64];
@@ -205,6 +215,7 @@ pub(crate) fn changed(call: u8, card: Card, text: &[u8]) -> Card {
         b'E' => with_event(card, text),
         b'L' => with_latch(card, text),
         b'M' => with_settings(card, text),
+        b'O' => with_jam(card, text),
         b'F' => fed(card, text, count_at(text, 64)),
         _ => with_queue(card, text),
     }

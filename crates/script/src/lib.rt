@@ -7,6 +7,7 @@ mod calls;
 mod cards;
 mod elements;
 mod frames;
+mod packets;
 
 use crate::calls::called;
 use card::card::Card;

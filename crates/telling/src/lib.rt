@@ -164,6 +164,7 @@ pub fn put_card(card: Card) {
     put_event(event);
     put_words(latch);
     put_settings(settings);
+    put_bool(card.jam);
     put_bool(card.done);
     let queue = card.queue;
     put_queue(queue);

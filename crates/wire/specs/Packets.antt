@@ -77,6 +77,10 @@ pairMeans Format.X Modulation.D = false
 abbrev pub offsetFits : ℤ → Bool
 offsetFits offset = leb (natAbs offset) 9999999
 
+-- a large offset: beyond 9,900 ticks, either way
+abbrev pub offsetLarge : ℤ → Bool
+offsetLarge offset = ltb 9900 (natAbs offset)
+
 -- A PACKET'S BYTES
 
 abbrev pub idOf : Packet → ℕ
@@ -195,6 +199,14 @@ means (Packet.H f m) = pairMeans f m
 means (Packet.I c) = true
 means (Packet.K g) = true
 
+-- a packet that needs the jam off: G with a large offset
+abbrev pub needsJamOff : Packet → Bool
+needsJamOff (Packet.A mode) = false
+needsJamOff (Packet.G offset) = offsetLarge offset
+needsJamOff (Packet.H f m) = false
+needsJamOff (Packet.I c) = false
+needsJamOff (Packet.K g) = false
+
 -- the table of numbers, 4 to 10
 unfoldable pub frameLines : List ℕ → List Line
 frameLines row =
@@ -221,17 +233,21 @@ packetRefusal row = given (packetLines row)
 abbrev pub packetIn : List ℕ → Packet
 packetIn row = meaning (idIn (bodyOf row)) (dataIn (bodyOf row))
 
+-- the answer that a packet is read, with whether it needs the jam off beside it
+abbrev pub packetRead : Packet → PacketRead
+packetRead p = PacketRead.Is p (needsJamOff p)
+
 abbrev pub readAs : ℕ → Packet → PacketRead
-readAs n p = pick (eqb n 0) (PacketRead.Is p) (PacketRead.Refused n)
+readAs n p = pick (eqb n 0) (packetRead p) (PacketRead.Refused n)
 
 -- what a row of bytes reads as
 unfoldable pub readPacket : List ℕ → PacketRead
 readPacket row = readAs (packetRefusal row) (packetIn row)
 
--- THE ANSWER AS THE PAGE HAS IT: its number, and its values, 0 beside a refusal
+-- THE ANSWER AS THE PAGE HAS IT: its number; its values, 0 beside a refusal; whether it needs the jam off, false beside a refusal
 
 abbrev pub numberRead : PacketRead → ℕ
-numberRead (PacketRead.Is p) = 0
+numberRead (PacketRead.Is p needs) = 0
 numberRead (PacketRead.Refused n) = n
 
 -- the id; the mode, the offset or the letter of its data; and for H the letter of the modulation
@@ -246,8 +262,12 @@ abbrev pub noValues : ℕ × ℤ × ℕ
 noValues = (0, pos 0, 0)
 
 abbrev pub valuesRead : PacketRead → ℕ × ℤ × ℕ
-valuesRead (PacketRead.Is p) = valuesOf p
+valuesRead (PacketRead.Is p needs) = valuesOf p
 valuesRead (PacketRead.Refused n) = noValues
+
+abbrev pub jamOffRead : PacketRead → Bool
+jamOffRead (PacketRead.Is p needs) = needs
+jamOffRead (PacketRead.Refused n) = false
 
 -- WRITING
 
@@ -309,12 +329,12 @@ readBody id ds = readAs (given (bodyLines (id ∷ ds))) (meaning id ds)
 unfoldable pub readPair : Format → ℕ → PacketRead
 readPair f b =
     pick (isModulation b)
-    (pick (pairMeans f (modulationOf b)) (PacketRead.Is (Packet.H f (modulationOf b))) (PacketRead.Refused 10))
+    (pick (pairMeans f (modulationOf b)) (packetRead (Packet.H f (modulationOf b))) (PacketRead.Refused 10))
     (PacketRead.Refused 9)
 
 -- a sign's byte and a number
 unfoldable pub readSigned : ℕ → ℕ → PacketRead
-readSigned sign n = pick (isSign sign) (PacketRead.Is (Packet.G (signed sign n))) (PacketRead.Refused 9)
+readSigned sign n = pick (isSign sign) (packetRead (Packet.G (signed sign n))) (PacketRead.Refused 9)
 
 -- a row whose first 0x17 is at the place e
 unfoldable pub readFramed : List ℕ → ℕ → PacketRead

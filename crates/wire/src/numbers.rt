@@ -48,3 +48,5 @@ pub const WRONG_MARKER: u8 = 22;
 pub const SPARE_SET: u8 = 23;
 
 pub const SECONDS_DIFFER: u8 = 24;
+
+pub const JAM_ON: u8 = 25;

@@ -6,7 +6,7 @@ ghost use Prim.Native.Nat.{_<_, _≤_, min};
 ghost use lib.ListN.{length};
 ghost use lib.IntN.{natAbs};
 ghost use Rattle.wire.specs.Digits.{digits};
-ghost use Rattle.wire.specs.Packets.{modeMeans, pairMeans, offsetFits, letterOfFormat, letterOfModulation, letterOfClock, letterOfGenerator, ascii, signOf, framed, placeOf, readBody, readPair, readSigned, readFramed, readNumber, readPacket, writePacket, rowWritten, put, putInto};
+ghost use Rattle.wire.specs.Packets.{modeMeans, pairMeans, offsetFits, offsetLarge, needsJamOff, packetRead, letterOfFormat, letterOfModulation, letterOfClock, letterOfGenerator, ascii, signOf, framed, placeOf, readBody, readPair, readSigned, readFramed, readNumber, readPacket, writePacket, rowWritten, put, putInto};
 
 // The time code's format, by its letter.
 pub enum Format {
@@ -44,9 +44,9 @@ pub enum Packet {
     K(Generator),
 }
 
-// What a row reads as: a packet, or the number of the refusal.
+// What a row reads as: a packet and whether it needs the jam off, or the number of the refusal.
 pub enum PacketRead {
-    Is(Packet),
+    Is(Packet, bool),
     Refused(u8),
 }
 
@@ -94,7 +94,7 @@ pub fn pair_means(f: Format, m: Modulation) -> bool
     }
 }
 
-fn format_letter(f: Format) -> u8
+pub fn format_letter(f: Format) -> u8
     ensures { λ r. ⌜ r ≡ letterOfFormat f ⌝ }
 {
     match f {
@@ -106,7 +106,7 @@ fn format_letter(f: Format) -> u8
     }
 }
 
-fn modulation_letter(m: Modulation) -> u8
+pub fn modulation_letter(m: Modulation) -> u8
     ensures { λ r. ⌜ r ≡ letterOfModulation m ⌝ }
 {
     match m {
@@ -115,7 +115,7 @@ fn modulation_letter(m: Modulation) -> u8
     }
 }
 
-fn clock_letter(c: ClockSource) -> u8
+pub fn clock_letter(c: ClockSource) -> u8
     ensures { λ r. ⌜ r ≡ letterOfClock c ⌝ }
 {
     match c {
@@ -124,7 +124,7 @@ fn clock_letter(c: ClockSource) -> u8
     }
 }
 
-fn generator_letter(g: Generator) -> u8
+pub fn generator_letter(g: Generator) -> u8
     ensures { λ r. ⌜ r ≡ letterOfGenerator g ⌝ }
 {
     match g {
@@ -149,6 +149,33 @@ pub fn offset_fits(offset: i32) -> bool
     ensures { λ r. ⌜ r ≡ offsetFits offset ⌝ }
 {
     offset_size(offset) <= 9_999_999
+}
+
+// A large offset: beyond 9,900 ticks, either way.
+pub fn offset_large(offset: i32) -> bool
+    ensures { λ r. ⌜ r ≡ offsetLarge offset ⌝ }
+{
+    9_900 < offset_size(offset)
+}
+
+// Whether a packet needs the jam off: G with a large offset does, and no other.
+pub fn needs_jam_off(p: Packet) -> bool
+    ensures { λ r. ⌜ r ≡ needsJamOff p ⌝ }
+{
+    match p {
+        Packet::A(mode) => false,
+        Packet::G(offset) => offset_large(offset),
+        Packet::H(f, m) => false,
+        Packet::I(c) => false,
+        Packet::K(g) => false,
+    }
+}
+
+// The answer that a packet is read.
+fn packet_read(p: Packet) -> PacketRead
+    ensures { λ r. ⌜ r ≡ packetRead p ⌝ }
+{
+    PacketRead::Is(p, needs_jam_off(p))
 }
 
 fn sign_of(offset: i32) -> u8
@@ -209,7 +236,7 @@ fn read_mode(bytes: &[u8]) -> PacketRead
     if !mode_means(b - 48) {
         return PacketRead::Refused(numbers::NO_MEANING);
     }
-    PacketRead::Is(Packet::A(b - 48))
+    packet_read(Packet::A(b - 48))
 }
 
 // A sign in front of a number of seven digits.
@@ -218,8 +245,8 @@ fn with_sign(sign: u8, n: u32) -> PacketRead
     ensures { λ r. ⌜ r ≡ readSigned sign n ⌝ }
 {
     match sign {
-        43 => PacketRead::Is(Packet::G(n as i32)),
-        45 => PacketRead::Is(Packet::G(0 - (n as i32))),
+        43 => packet_read(Packet::G(n as i32)),
+        45 => packet_read(Packet::G(0 - (n as i32))),
         _ => PacketRead::Refused(numbers::WRONG_BYTE),
     }
 }
@@ -245,12 +272,12 @@ fn read_pair(f: Format, m: u8) -> PacketRead
 {
     match m {
         77 => if pair_means(f, Modulation::M) {
-            PacketRead::Is(Packet::H(f, Modulation::M))
+            packet_read(Packet::H(f, Modulation::M))
         } else {
             PacketRead::Refused(numbers::NO_MEANING)
         },
         68 => if pair_means(f, Modulation::D) {
-            PacketRead::Is(Packet::H(f, Modulation::D))
+            packet_read(Packet::H(f, Modulation::D))
         } else {
             PacketRead::Refused(numbers::NO_MEANING)
         },
@@ -286,8 +313,8 @@ fn read_clock(bytes: &[u8]) -> PacketRead
     }
     let b = bytes[0];
     match b {
-        69 => PacketRead::Is(Packet::I(ClockSource::External)),
-        73 => PacketRead::Is(Packet::I(ClockSource::Internal)),
+        69 => packet_read(Packet::I(ClockSource::External)),
+        73 => packet_read(Packet::I(ClockSource::Internal)),
         _ => PacketRead::Refused(numbers::WRONG_BYTE),
     }
 }
@@ -301,8 +328,8 @@ fn read_generator(bytes: &[u8]) -> PacketRead
     }
     let b = bytes[0];
     match b {
-        66 => PacketRead::Is(Packet::K(Generator::B)),
-        72 => PacketRead::Is(Packet::K(Generator::H)),
+        66 => packet_read(Packet::K(Generator::B)),
+        72 => packet_read(Packet::K(Generator::H)),
         _ => PacketRead::Refused(numbers::WRONG_BYTE),
     }
 }

@@ -40,7 +40,7 @@ filled q (b ∷ bs) = filled (enqueued q (b % 256)) bs
 pub joins-lawful : (c : Card) (b : ℕ) → lawful c ≡ true → c .queue .fill < 64 → lawful (withQueue c (enqueued (c .queue) b)) ≡ true
 joins-lawful c b l h =
     let p : Parts c = parts c l in
-    whole _ (record { interrupts = p .interrupts; event = p .event; timeLatch = p .timeLatch; settings = p .settings; queue = enqueued-lawful (c .queue) b h (p .queue); clock = p .clock })
+    whole _ (record { interrupts = p .interrupts; event = p .event; timeLatch = p .timeLatch; settings = p .settings; jam = p .jam; queue = enqueued-lawful (c .queue) b h (p .queue); clock = p .clock })
 
 -- with k free places
 ends : (row : List ℕ) (c : Card) (k : ℕ) → lawful c ≡ true → c .queue .fill + k ≡ 64

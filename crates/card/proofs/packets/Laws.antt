@@ -1,11 +1,11 @@
--- ACK: what the queue reads as decides settings, done bit and number. By the law of what a row reads as. Assumes nothing.
+-- ACK: the jam and what the queue reads as decide settings, done bit and number. By the law of what a row reads as. Assumes nothing.
 use Prim.Native.Nat.{ℕ}
 use mathlib.Core.Path.{_≡_, refl, sym, ap, _∙_}
-use mathlib.Core.Bool.{Bool, true, false}
+use mathlib.Core.Bool.{Bool, true, false, _&&_}
 use lib.Dec.{eqb}
-use borrow.Author.Tests.{ne-eqb}
+use borrow.Author.Tests.{ne-eqb, eqb-false}
 use Rattle.wire.specs.Digits.{pick}
-use Rattle.wire.specs.Packets.{readPacket}
+use Rattle.wire.specs.Packets.{packetIn, readPacket}
 use Rattle.wire.specs.declared.packets.Packet.{Packet}
 use Rattle.wire.specs.declared.packets.PacketRead.the-variants as PacketRead
 use Rattle.wire.proofs.packets.Read.{read-is, read-refused}
@@ -15,28 +15,39 @@ use Rattle.card.specs.declared.card.Card.{Card}
 use Rattle.card.specs.declared.packets.Taken.{Taken}
 use Rattle.card.specs.Cards.{answer, withDone, withQueue, withSettings}
 use Rattle.parts.specs.Pending.{bit}
-use Rattle.card.proofs.registers.Laws.{ack-packet}
 use Rattle.parts.specs.Queues.{emptyQueue, queued}
 use Rattle.parts.specs.Settings.{applied}
-use Rattle.card.specs.Packets.{ackRefusal, settingsTaken, taken, acknowledged}
+use Rattle.card.specs.Packets.{ackRefusal, ackNumber, settingsTaken, taken, acknowledged}
+use Rattle.card.proofs.Ack.{ack-decided, ack-refused}
 
-abbrev told : Queue → Settings → Taken
-told q s = record { settings = settingsTaken q s; done = eqb (ackRefusal q) 0; number = ackRefusal q }
+abbrev told : Bool → Queue → Settings → Taken
+told jam q s = record { settings = settingsTaken jam (queued q) s; done = eqb (ackRefusal jam (queued q)) 0; number = ackRefusal jam (queued q) }
 
-pub taken-is : (q : Queue) (s : Settings) (p : Packet) → readPacket (queued q) ≡ PacketRead.Is p → (t : Settings) → t ≡ applied p s
-    → _≡_ {A = Taken} (record { settings = t; done = true; number = 0 }) (told q s)
-unfolding settingsTaken
-taken-is q s p e t h =
-    let r = read-is (queued q) p e in
-    let z : ackRefusal q ≡ 0 = ack-packet q ∙ r .0 in
-    rw (h, z) (ap (λ (k : Packet). record { settings = applied k s; done = true; number = 0 }) (sym (r .1)))
+module _ (jam : Bool) (q : Queue) (s : Settings) where
+  accepted : ackRefusal jam (queued q) ≡ 0 → _≡_ {A = Taken} (record { settings = applied (packetIn (queued q)) s; done = true; number = 0 }) (told jam q s)
+  unfolding settingsTaken
+  accepted z = simp z
 
-pub taken-refused : (q : Queue) (s : Settings) (n : ℕ) → readPacket (queued q) ≡ PacketRead.Refused n → _≡_ {A = Taken} (record { settings = s; done = false; number = n }) (told q s)
-unfolding settingsTaken
-taken-refused q s n e =
-    let r = read-refused (queued q) n e in
-    let z : eqb (ackRefusal q) 0 ≡ false = ne-eqb (ackRefusal q) 0 (λ w. r .1 (sym (ack-packet q) ∙ w)) in
-    rw z (ap (λ (m : ℕ). record { settings = s; done = false; number = m }) (sym (ack-packet q ∙ r .0)))
+  refused : (n : ℕ) → ackRefusal jam (queued q) ≡ n → (n ≡ 0 → ⊥) → _≡_ {A = Taken} (record { settings = s; done = false; number = n }) (told jam q s)
+  unfolding settingsTaken
+  refused n e z = simp (e, ne-eqb n 0 z)
+
+  module _ (p : Packet) (off : Bool) (e : readPacket (queued q) ≡ PacketRead.Is p off) where
+    pub taken-is : (jam && off) ≡ false → (t : Settings) → t ≡ applied p s → _≡_ {A = Taken} (record { settings = t; done = true; number = 0 }) (told jam q s)
+    taken-is j t h =
+        let r = read-is (queued q) p off e in
+        ap (λ (u : Settings). record { settings = u; done = true; number = 0 }) (h ∙ ap (λ (k : Packet). applied k s) (sym (r .1)))
+        ∙ accepted (ack-decided jam (queued q) (r .0) false (ap (λ (x : Bool). jam && x) (r .2) ∙ j))
+
+    pub taken-25 : (jam && off) ≡ true → _≡_ {A = Taken} (record { settings = s; done = false; number = 25 }) (told jam q s)
+    taken-25 j =
+        let r = read-is (queued q) p off e in
+        refused 25 (ack-decided jam (queued q) (r .0) true (ap (λ (x : Bool). jam && x) (r .2) ∙ j)) (eqb-false 25 0 refl)
+
+  pub taken-refused : (n : ℕ) → readPacket (queued q) ≡ PacketRead.Refused n → _≡_ {A = Taken} (record { settings = s; done = false; number = n }) (told jam q s)
+  taken-refused n e =
+      let r = read-refused (queued q) n e in
+      refused n (ack-refused jam (queued q) (r .1) ∙ r .0) (λ w. r .1 (r .0 ∙ w))
 
 -- with bit 7, bit 0 decides nothing: the done bit is set or cleared afterwards
 cleared-first : (c : Card) (t : Bool) → taken (pick t (withDone c false) c) ≡ taken c
@@ -44,6 +55,6 @@ cleared-first c true = refl
 cleared-first c false = refl
 
 pub takes-all : (c : Card) (v : ℕ) → bit 128 v ≡ true
-    → answer (withDone (withSettings (withQueue c emptyQueue) (told (c .queue) (c .settings) .settings)) (told (c .queue) (c .settings) .done)) (ackRefusal (c .queue)) ≡ acknowledged c v
+    → answer (withDone (withSettings (withQueue c emptyQueue) (told (c .jam) (c .queue) (c .settings) .settings)) (told (c .jam) (c .queue) (c .settings) .done)) (ackNumber c) ≡ acknowledged c v
 unfolding acknowledged
-takes-all c v e = simp e (ap (λ (k : Card). answer k (ackRefusal (c .queue))) (sym (cleared-first c (bit 1 v))))
+takes-all c v e = simp e (ap (λ (k : Card). answer k (ackNumber c)) (sym (cleared-first c (bit 1 v))))

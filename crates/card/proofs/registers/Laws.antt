@@ -10,26 +10,21 @@ use lib.Dec.{eqb, leb}
 use lib.ListN.{getD, set}
 use borrow.Author.Tests.{le-leb, lt-leb, le-ltb, eq-eqb, ne-eqb}
 use Rattle.wire.specs.Words.{wordsOrZero, timeRead, readWords}
-use Rattle.wire.specs.Packets.{packetRefusal}
 use Rattle.clock.specs.declared.time.Time.{Time}
 use Rattle.clock.specs.Time.{timeLawful}
 use Rattle.clock.proofs.time.Laws.{in-range, days-in-year}
 use Rattle.clock.proofs.lawful.Laws as clock
-use Rattle.parts.specs.declared.queue.Queue.{Queue}
 use Rattle.parts.specs.declared.interrupts.Interrupts.{Interrupts}
 use Rattle.card.specs.declared.card.Card.{Card}
 use Rattle.parts.specs.Events.{withLatch}
 use Rattle.parts.specs.Interrupts.{interruptsWritten, lineUp, eventRaised}
 use Rattle.card.specs.Cards.{answer, granted, withTimeLatch, withEvent, withInterrupts, withQueue}
 use Rattle.parts.specs.Pending.{raised, cleared}
-use Rattle.parts.specs.Queues.{queued}
 use Rattle.parts.proofs.interrupts.Laws.{writes-intstat}
 use Rattle.card.specs.Lawful.{lawful}
 use Rattle.card.specs.Registers.{readRefusal, readRegister, shown, value, wordsAt, wordsNow, writeRefusal, writeRegister, written, captures, edge, interruptLine, line, lineRefusal}
-use Rattle.card.specs.Packets.{ackRefusal}
 use Rattle.wire.proofs.words.Laws.{words-within, in-ranges}
 use Rattle.wire.proofs.words.RoundTrip.{read-written}
-use Rattle.wire.proofs.packets.Read.{refusal-given}
 use Rattle.parts.proofs.queue.Laws.{fill-within}
 use Rattle.wire.proofs.packets.Laws.{and-false}
 use Rattle.card.proofs.lawful.Laws.{parts}
@@ -138,11 +133,6 @@ queue-within c h = fill-within (c .queue) (parts c h .queue)
 
 pub queue-room : (c : Card) → lawful c ≡ true → (c .queue .fill ≡ 64 → ⊥) → c .queue .fill < 64
 queue-room c h e = lt-of-le-ne (queue-within c h) e
-
--- the table of ACK is that of the packet in the queue
-pub ack-packet : (q : Queue) → ackRefusal q ≡ packetRefusal (queued q)
-unfolding ackRefusal
-ack-packet q = sym (refusal-given (queued q))
 
 -- writing FIFO: 18, 3, or the byte joins the queue
 module _ (c : Card) (v : ℕ) (k : Bool) (ek : k ≡ lawful c) where

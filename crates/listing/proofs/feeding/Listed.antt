@@ -1,4 +1,4 @@
--- The listing of any input of bytes: the header, and for each piece its number and the number that the table of packets gives.
+-- The listing of any input of bytes: the header, and for each piece its number and the number that the table of ACK gives with the jam on.
 -- By induction on the pieces, from the laws of the cut and of the answers. Assumes nothing.
 use Prim.Native.Nat.{ℕ, suc, _≤_}
 use mathlib.Core.Path.{_≡_, refl, ap, ap₂, _∙_}
@@ -7,16 +7,11 @@ use mathlib.Core.List.{List, [], _∷_, _++_, append-assoc}
 use native.Mathlib.Omega.{arith}
 use lib.ListN.{length}
 use Rattle.wire.specs.Digits.{below}
-use Rattle.wire.specs.Packets.{packetRefusal}
 use Rattle.wire.proofs.digits.Laws.{and-left, and-right, below-both}
-use Rattle.wire.proofs.packets.Read.{number-read}
 use Rattle.laws.specs.Each.{Each}
-use Rattle.listing.specs.Listing.{lastPiece, answerOf, line, lines, header, listing, joinedParts, Piece, Uncut, Cut, tableLines}
-use Rattle.listing.proofs.feeding.Answers.{answer-reads}
+use Rattle.listing.specs.Listing.{lastPiece, line, lines, header, listing, joinedParts, Piece, Uncut, Cut, tableLines}
+use Rattle.listing.proofs.feeding.Answers.{answer-table}
 use Rattle.listing.proofs.feeding.Cuts.{cut-only}
-
-answer-table : (p : List ℕ) → length p ≤ 64 → below 256 p ≡ true → answerOf p ≡ packetRefusal p
-answer-table p l h = answer-reads p l h ∙ number-read p
 
 below-left : (xs ys : List ℕ) → below 256 (xs ++ ys) ≡ true → below 256 xs ≡ true
 below-left xs ys h = and-left (below 256 xs) (below 256 ys) (rw below-both at h)

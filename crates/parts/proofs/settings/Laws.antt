@@ -1,17 +1,17 @@
 -- Lawful settings, range by range, and what a packet or a reset sets. Assumes nothing.
-use mathlib.Core.Path.{_≡_, refl}
-use mathlib.Core.Bool.{true}
+use mathlib.Core.Path.{_≡_, refl, ap}
+use mathlib.Core.Bool.{Bool, true, false, _&&_, not}
 use native.Mathlib.Omega.{arith}
 use lib.Dec.{ltb}
 use lib.IntN.{pos}
 use borrow.Author.Tests.{lt-ltb, leb-true}
-use Rattle.wire.specs.Packets.{modeMeans, pairMeans, offsetFits, fits, means}
+use Rattle.wire.specs.Packets.{modeMeans, pairMeans, offsetFits, needsJamOff, fits, means}
 use Rattle.wire.specs.declared.packets.ClockSource.{ClockSource}
 use Rattle.wire.specs.declared.packets.Packet.{Packet}
 use Rattle.wire.specs.declared.packets.Packet.the-variants as Packet
 use Rattle.wire.proofs.digits.Laws.{and-both}
 use Rattle.parts.specs.declared.settings.Settings.{Settings}
-use Rattle.parts.specs.Settings.{settingsLawful, applied}
+use Rattle.parts.specs.Settings.{settingsLawful, jamFits, applied}
 
 pub record SettingsParts (s : Settings) : Type 0 where
   pub mode : ltb (s .mode) 8 ≡ true
@@ -48,6 +48,14 @@ applied-lawful (Packet.I c) s f e h =
 applied-lawful (Packet.K g) s f e h =
     let q = settings-parts s h in
     settings-lawful (applied (Packet.K g) s) (record { mode = q .mode; meant = q .meant; pair = q .pair; offset = q .offset })
+
+-- the jam may stand beside what a packet sets, if it might before and the packet does not need it off while it is on
+pub applied-jam : (k : Packet) (s : Settings) (jam : Bool) → (jam && needsJamOff k) ≡ false → jamFits jam s ≡ true → jamFits jam (applied k s) ≡ true
+applied-jam (Packet.A m) s jam e h = h
+applied-jam (Packet.G z) s jam e h = ap not e
+applied-jam (Packet.H f m) s jam e h = h
+applied-jam (Packet.I c) s jam e h = h
+applied-jam (Packet.K g) s jam e h = h
 
 -- another clock source and no offset
 pub reset-lawful : (s : Settings) (c : ClockSource) → settingsLawful s ≡ true

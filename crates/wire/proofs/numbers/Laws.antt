@@ -79,6 +79,13 @@ pub quiet-first : (t q : Bool) → not t && q ≡ true → (t ≡ false) × (q �
 quiet-first true q e = clash (sym e)
 quiet-first false q e = (refl, e)
 
+-- a number that neither part of a table has
+pub absent-append : (n : ℕ) (ls ms : List Line) → absent n ls ≡ true → absent n ms ≡ true → absent n (ls ++ ms) ≡ true
+absent-append n [] ms a b = b
+absent-append n (l ∷ ls) ms a b =
+    let h = and-both (not (eqb (l .number) n)) (absent n ls) a in
+    simp (h .0, absent-append n ls ms (h .1) b)
+
 -- lines behind others are asked when none of those holds
 pub given-append : (ls ms : List Line) → absent 0 ls ≡ true → given (ls ++ ms) ≡ pick (eqb (given ls) 0) (given ms) (given ls)
 given-append [] ms a = refl

@@ -12,7 +12,7 @@ use lib.ListN.{length, take, drop, getD, drop-of-length-le, length-drop, replica
 use lib.Seq.{take-suc, take-all, drop-cons, getD-drop, length-take-le, sets, sets-eq}
 use borrow.Author.Tests.{lt-ltb, le-ltb, le-leb, lt-leb, leb-true, eq-eqb, ne-eqb}
 use Rattle.wire.specs.Digits.{pick, num, below}
-use Rattle.wire.specs.Packets.{has, placeOf, bodyOf, frameLines, packetRefusal, readPacket, readFramed, isDecimal, isOctal, isSign, isFormat, isModulation, isClock, isGenerator, modeMeans, pairMeans, formatOf, modulationOf, clockOf, generatorOf, offsetOf, allDecimal, asciiValues, readNumber, kindsOf, ofKinds, bodyLines, means, meaning, readAs, readBody, readPair, readSigned, fits, packetWritten, writingRefusal, writePacket, rowWritten, bytesOf, put, putInto}
+use Rattle.wire.specs.Packets.{has, placeOf, bodyOf, frameLines, packetRefusal, readPacket, readFramed, isDecimal, isOctal, isSign, isFormat, isModulation, isClock, isGenerator, modeMeans, pairMeans, formatOf, modulationOf, clockOf, generatorOf, offsetOf, allDecimal, asciiValues, readNumber, kindsOf, ofKinds, bodyLines, means, meaning, packetRead, readAs, readBody, readPair, readSigned, fits, packetWritten, writingRefusal, writePacket, rowWritten, bytesOf, put, putInto}
 use Rattle.wire.specs.declared.packets.Packet.{Packet}
 use Rattle.wire.specs.declared.packets.Packet.the-variants as Packet
 use Rattle.wire.specs.declared.packets.PacketWritten.{PacketWritten}
@@ -203,7 +203,7 @@ read-all bs acc i r h =
 
 -- THE TABLE FROM 7 ON
 
-nine-or-ten : (o m : Bool) (p : Packet) → readAs (pick (not o) 9 (pick (not m) 10 0)) p ≡ pick o (pick m (PacketRead.Is p) (PacketRead.Refused 10)) (PacketRead.Refused 9)
+nine-or-ten : (o m : Bool) (p : Packet) → readAs (pick (not o) 9 (pick (not m) 10 0)) p ≡ pick o (pick m (packetRead p) (PacketRead.Refused 10)) (PacketRead.Refused 9)
 nine-or-ten true true p = refl
 nine-or-ten true false p = refl
 nine-or-ten false m p = refl
@@ -219,7 +219,7 @@ module _ (id : ℕ) (ds : List ℕ) where
 
   -- a known id with so many data bytes as it has kinds
   pub body-of : eqb (length (kindsOf id)) 0 ≡ false → eqb (length ds) (length (kindsOf id)) ≡ true →
-      readBody id ds ≡ pick (ofKinds (kindsOf id) ds) (pick (means (meaning id ds)) (PacketRead.Is (meaning id ds)) (PacketRead.Refused 10)) (PacketRead.Refused 9)
+      readBody id ds ≡ pick (ofKinds (kindsOf id) ds) (pick (means (meaning id ds)) (packetRead (meaning id ds)) (PacketRead.Refused 10)) (PacketRead.Refused 9)
   unfolding readBody bodyLines
   body-of k l = simp (k, l, eqb·suc-zero) (nine-or-ten (ofKinds (kindsOf id) ds) (means (meaning id ds)) (meaning id ds))
 
@@ -252,30 +252,30 @@ pick-and true t x y = refl
 pick-and false t x y = refl
 
 module _ (ds : List ℕ) (l : length ds ≡ 1) where
-  pub mode-body : readBody 0x41 ds ≡ pick (isOctal (getD ds 0 0)) (pick (modeMeans (getD ds 0 0 - 48)) (PacketRead.Is (Packet.A (getD ds 0 0 - 48))) (PacketRead.Refused 10)) (PacketRead.Refused 9)
+  pub mode-body : readBody 0x41 ds ≡ pick (isOctal (getD ds 0 0)) (pick (modeMeans (getD ds 0 0 - 48)) (packetRead (Packet.A (getD ds 0 0 - 48))) (PacketRead.Refused 10)) (PacketRead.Refused 9)
   unfolding kindsOf meaning
   mode-body =
       body-of 0x41 ds refl (eq-eqb (length ds) 1 l)
-      ∙ ap (λ (t : Bool). pick t (pick (modeMeans (getD ds 0 0 - 48)) (PacketRead.Is (Packet.A (getD ds 0 0 - 48))) (PacketRead.Refused 10)) (PacketRead.Refused 9)) (kinds-one isOctal ds l)
+      ∙ ap (λ (t : Bool). pick t (pick (modeMeans (getD ds 0 0 - 48)) (packetRead (Packet.A (getD ds 0 0 - 48))) (PacketRead.Refused 10)) (PacketRead.Refused 9)) (kinds-one isOctal ds l)
 
-  pub clock-body : readBody 0x49 ds ≡ pick (isClock (getD ds 0 0)) (PacketRead.Is (Packet.I (clockOf (getD ds 0 0)))) (PacketRead.Refused 9)
+  pub clock-body : readBody 0x49 ds ≡ pick (isClock (getD ds 0 0)) (packetRead (Packet.I (clockOf (getD ds 0 0)))) (PacketRead.Refused 9)
   unfolding kindsOf meaning
   clock-body =
       body-of 0x49 ds refl (eq-eqb (length ds) 1 l)
-      ∙ ap (λ (t : Bool). pick t (PacketRead.Is (Packet.I (clockOf (getD ds 0 0)))) (PacketRead.Refused 9)) (kinds-one isClock ds l)
+      ∙ ap (λ (t : Bool). pick t (packetRead (Packet.I (clockOf (getD ds 0 0)))) (PacketRead.Refused 9)) (kinds-one isClock ds l)
 
-  pub generator-body : readBody 0x4B ds ≡ pick (isGenerator (getD ds 0 0)) (PacketRead.Is (Packet.K (generatorOf (getD ds 0 0)))) (PacketRead.Refused 9)
+  pub generator-body : readBody 0x4B ds ≡ pick (isGenerator (getD ds 0 0)) (packetRead (Packet.K (generatorOf (getD ds 0 0)))) (PacketRead.Refused 9)
   unfolding kindsOf meaning
   generator-body =
       body-of 0x4B ds refl (eq-eqb (length ds) 1 l)
-      ∙ ap (λ (t : Bool). pick t (PacketRead.Is (Packet.K (generatorOf (getD ds 0 0)))) (PacketRead.Refused 9)) (kinds-one isGenerator ds l)
+      ∙ ap (λ (t : Bool). pick t (packetRead (Packet.K (generatorOf (getD ds 0 0)))) (PacketRead.Refused 9)) (kinds-one isGenerator ds l)
 
 pub format-body : (ds : List ℕ) → length ds ≡ 2 → readBody 0x48 ds ≡ pick (isFormat (getD ds 0 0)) (readPair (formatOf (getD ds 0 0)) (getD ds 1 0)) (PacketRead.Refused 9)
 unfolding kindsOf meaning readPair
 format-body ds l =
     let f = formatOf (getD ds 0 0) in
     let m = modulationOf (getD ds 1 0) in
-    let x = pick (pairMeans f m) (PacketRead.Is (Packet.H f m)) (PacketRead.Refused 10) in
+    let x = pick (pairMeans f m) (packetRead (Packet.H f m)) (PacketRead.Refused 10) in
     body-of 0x48 ds refl (eq-eqb (length ds) 2 l)
     ∙ ap (λ (t : Bool). pick t x (PacketRead.Refused 9)) (kinds-two isFormat isModulation ds l)
     ∙ pick-and (isFormat (getD ds 0 0)) (isModulation (getD ds 1 0)) x (PacketRead.Refused 9)
@@ -285,7 +285,7 @@ unfoldable pub signedRead : ℕ → Number → PacketRead
 signedRead sign Number.Bad = PacketRead.Refused 9
 signedRead sign (Number.Is n) = readSigned sign n
 
-signed-read : (sign : ℕ) (ds : List ℕ) (t : Bool) → allDecimal ds ≡ t → pick (isSign sign && allDecimal ds) (PacketRead.Is (Packet.G (offsetOf sign ds))) (PacketRead.Refused 9) ≡ signedRead sign (readNumber ds)
+signed-read : (sign : ℕ) (ds : List ℕ) (t : Bool) → allDecimal ds ≡ t → pick (isSign sign && allDecimal ds) (packetRead (Packet.G (offsetOf sign ds))) (PacketRead.Refused 9) ≡ signedRead sign (readNumber ds)
 unfolding signedRead readSigned readNumber offsetOf
 signed-read sign ds true f = simp (f, and-true)
 signed-read sign ds false f = simp (f, and-false)
@@ -294,7 +294,7 @@ pub offset-body : (ds : List ℕ) → length ds ≡ 8 → readBody 0x47 ds ≡ s
 unfolding kindsOf meaning
 offset-body ds l =
     body-of 0x47 ds refl (eq-eqb (length ds) 8 l)
-    ∙ ap (λ (t : Bool). pick t (PacketRead.Is (Packet.G (offsetOf (getD ds 0 0) (drop 1 ds)))) (PacketRead.Refused 9))
+    ∙ ap (λ (t : Bool). pick t (packetRead (Packet.G (offsetOf (getD ds 0 0) (drop 1 ds)))) (PacketRead.Refused 9))
     (kinds-cons isSign (replicate 7 isDecimal) ds (omega arith) ∙ ap (λ (t : Bool). isSign (getD ds 0 0) && t) (kinds-decimal 7 (drop 1 ds) (simp length-drop (omega arith))))
     ∙ signed-read (getD ds 0 0) (drop 1 ds) (allDecimal (drop 1 ds)) refl
 

@@ -1,6 +1,6 @@
 -- What a row reads as, by the table of its refusals: the packet that it holds if no line is given, else the number. Assumes nothing.
 use Prim.Native.Nat.{ℕ, _≤_}
-use mathlib.Core.Path.{_≡_, refl, _∙_}
+use mathlib.Core.Path.{_≡_, refl, ap, _∙_}
 use mathlib.Core.Bool.{Bool, true, false, _&&_}
 use mathlib.Core.List.{List, [], _∷_}
 use native.Mathlib.Omega.{arith}
@@ -8,7 +8,7 @@ use lib.Dec.{leb, eqb}
 use borrow.Author.Tests.{eqb-true, eqb-false, eq-eqb, leb-true}
 use Rattle.wire.specs.Digits.{pick}
 use Rattle.wire.specs.Numbers.{Line, given, absent}
-use Rattle.wire.specs.Packets.{frameLines, bodyLines, packetLines, packetRefusal, packetIn, readPacket, numberRead, valuesOf, noValues, valuesRead}
+use Rattle.wire.specs.Packets.{frameLines, bodyLines, packetLines, packetRefusal, packetIn, needsJamOff, packetRead, readPacket, numberRead, valuesOf, noValues, valuesRead, jamOffRead}
 use Rattle.wire.specs.declared.packets.Packet.{Packet}
 use Rattle.wire.specs.declared.packets.PacketRead.{PacketRead}
 use Rattle.wire.specs.declared.packets.PacketRead.the-variants as PacketRead
@@ -22,29 +22,42 @@ refusal-given row = refl
 pub number-read : (row : List ℕ) → numberRead (readPacket row) ≡ packetRefusal row
 unfolding readPacket
 number-read row =
-    picked numberRead (eqb (packetRefusal row) 0) (PacketRead.Is (packetIn row)) (PacketRead.Refused (packetRefusal row))
+    picked numberRead (eqb (packetRefusal row) 0) (packetRead (packetIn row)) (PacketRead.Refused (packetRefusal row))
     ∙ zero-or (packetRefusal row) (eqb (packetRefusal row) 0) refl
 
 -- and its values are those of the packet that it holds, 0 beside a refusal
 pub values-read : (row : List ℕ) → valuesRead (readPacket row) ≡ pick (eqb (packetRefusal row) 0) (valuesOf (packetIn row)) noValues
 unfolding readPacket
-values-read row = picked valuesRead (eqb (packetRefusal row) 0) (PacketRead.Is (packetIn row)) (PacketRead.Refused (packetRefusal row))
+values-read row = picked valuesRead (eqb (packetRefusal row) 0) (packetRead (packetIn row)) (PacketRead.Refused (packetRefusal row))
 
-pub reads-in : (row : List ℕ) → packetRefusal row ≡ 0 → readPacket row ≡ PacketRead.Is (packetIn row)
+-- and it needs the jam off if that packet does; no refusal does
+pub jam-off-read : (row : List ℕ) → jamOffRead (readPacket row) ≡ (eqb (packetRefusal row) 0 && needsJamOff (packetIn row))
+unfolding readPacket
+jam-off-read row = picked jamOffRead (eqb (packetRefusal row) 0) (packetRead (packetIn row)) (PacketRead.Refused (packetRefusal row)) ∙ and-picked (eqb (packetRefusal row) 0) (needsJamOff (packetIn row))
+  where
+    and-picked : (s t : Bool) → pick s t false ≡ (s && t)
+    and-picked true t = refl
+    and-picked false t = refl
+
+pub reads-in : (row : List ℕ) → packetRefusal row ≡ 0 → readPacket row ≡ packetRead (packetIn row)
 unfolding readPacket
 reads-in row e = simp (eq-eqb (packetRefusal row) 0 e)
 
-pub is-by : (n : ℕ) (p q : Packet) (t : Bool) → eqb n 0 ≡ t → pick t (PacketRead.Is p) (PacketRead.Refused n) ≡ PacketRead.Is q → (n ≡ 0) × (p ≡ q)
-is-by n p q true e h = (eqb-true n 0 e, cc)
-is-by n p q false e h = absurd (let z : _≡_ {A = ℕ} 0 1 = cc in omega arith)
+pub is-by : (n : ℕ) (p q : Packet) (needs t : Bool) → eqb n 0 ≡ t → pick t (packetRead p) (PacketRead.Refused n) ≡ PacketRead.Is q needs → (n ≡ 0) × (p ≡ q) × (needsJamOff p ≡ needs)
+is-by n p q needs true e h = (eqb-true n 0 e, cc, cc)
+is-by n p q needs false e h = absurd (let z : _≡_ {A = ℕ} 0 1 = cc in omega arith)
 
-refused-by : (n m : ℕ) (p : Packet) (t : Bool) → eqb n 0 ≡ t → pick t (PacketRead.Is p) (PacketRead.Refused n) ≡ PacketRead.Refused m → (n ≡ m) × (n ≡ 0 → ⊥)
+refused-by : (n m : ℕ) (p : Packet) (t : Bool) → eqb n 0 ≡ t → pick t (packetRead p) (PacketRead.Refused n) ≡ PacketRead.Refused m → (n ≡ m) × (n ≡ 0 → ⊥)
 refused-by n m p true e h = absurd (let z : _≡_ {A = ℕ} 0 1 = cc in omega arith)
 refused-by n m p false e h = (cc, eqb-false n 0 e)
 
-pub read-is : (row : List ℕ) (q : Packet) → readPacket row ≡ PacketRead.Is q → (packetRefusal row ≡ 0) × (packetIn row ≡ q)
+pub read-is : (row : List ℕ) (q : Packet) (needs : Bool) → readPacket row ≡ PacketRead.Is q needs → (packetRefusal row ≡ 0) × (packetIn row ≡ q) × (needsJamOff (packetIn row) ≡ needs)
 unfolding readPacket
-read-is row q h = is-by (packetRefusal row) (packetIn row) q (eqb (packetRefusal row) 0) refl h
+read-is row q needs h = is-by (packetRefusal row) (packetIn row) q needs (eqb (packetRefusal row) 0) refl h
+
+-- so what is said beside a packet that is read is whether it needs the jam off
+pub read-as : (row : List ℕ) (q : Packet) (needs : Bool) → readPacket row ≡ PacketRead.Is q needs → readPacket row ≡ packetRead q
+read-as row q needs h = let r = read-is row q needs h in reads-in row (r .0) ∙ ap packetRead (r .1)
 
 pub read-refused : (row : List ℕ) (m : ℕ) → readPacket row ≡ PacketRead.Refused m → (packetRefusal row ≡ m) × (packetRefusal row ≡ 0 → ⊥)
 unfolding readPacket

@@ -14,7 +14,7 @@ use lib.Seq.{take-append-seam, split-at}
 use borrow.Author.Tests.{lt-ltb, le-leb, ltb-true, leb-true, ne-eqb, eqb-true, eq-eqb, le-ltb, not-false}
 use Rattle.wire.specs.Digits.{pick, digits, num, below}
 use Rattle.wire.specs.Numbers.{_if_, given, quiet, absent}
-use Rattle.wire.specs.Packets.{has, placeOf, bodyOf, frameLines, bodyLines, packetRefusal, readPacket, readFramed, readBody, readAs, kindsOf, ofKinds, meaning, means, fits, pairMeans, isDecimal, isOctal, isSign, isFormat, isModulation, isClock, isGenerator, allDecimal, asciiValues, ascii, signOf, signed, offsetOf, readNumber, readSigned, readPair, formatOf, modulationOf, clockOf, generatorOf, letterOfFormat, letterOfModulation, letterOfClock, letterOfGenerator, idOf, dataOf, framed, bytesOf, packetLines, packetIn, packetWritten, writingRefusal, writePacket, rowWritten, minusZero, Holds}
+use Rattle.wire.specs.Packets.{has, placeOf, bodyOf, frameLines, bodyLines, packetRefusal, readPacket, readFramed, readBody, packetRead, readAs, kindsOf, ofKinds, meaning, means, needsJamOff, fits, pairMeans, isDecimal, isOctal, isSign, isFormat, isModulation, isClock, isGenerator, allDecimal, asciiValues, ascii, signOf, signed, offsetOf, readNumber, readSigned, readPair, formatOf, modulationOf, clockOf, generatorOf, letterOfFormat, letterOfModulation, letterOfClock, letterOfGenerator, idOf, dataOf, framed, bytesOf, packetLines, packetIn, packetWritten, writingRefusal, writePacket, rowWritten, minusZero, Holds}
 use Rattle.wire.specs.declared.packets.Number.{Number}
 use Rattle.wire.specs.declared.packets.Number.the-variants as Number
 use Rattle.wire.specs.declared.packets.Format.{Format}
@@ -32,7 +32,7 @@ use Rattle.wire.specs.declared.packets.PacketRead.{PacketRead}
 use Rattle.wire.specs.declared.packets.PacketRead.the-variants as PacketRead
 use Rattle.wire.proofs.digits.Laws.{lt-or-le, and-left, and-right, or-left, or-right, picked, zero-or, below-both, digits-below, digits-length, written, read, clash}
 use Rattle.wire.proofs.numbers.Laws.{given-zero, quiet-first}
-use Rattle.wire.proofs.packets.Read.{is-by, read-is}
+use Rattle.wire.proofs.packets.Read.{is-by, read-is, read-as}
 use Rattle.wire.proofs.packets.Laws.{place-has, place-front, framed-row, mode-body, clock-body, generator-body, format-body, offset-body, kinds-one, kinds-two, kinds-cons, kinds-decimal, signedRead, seven-small, values-length, values-below}
 
 -- WRITTEN, THEN READ
@@ -142,11 +142,11 @@ number-ascii : (n : ℕ) → n ≤ 9999999 → readNumber (ascii (digits 10 7 n)
 unfolding readNumber
 number-ascii n h = simp (ascii-decimal (digits 10 7 n) (digits-below 10 (lit< tt) 7 n), values-ascii, written 10 (lit< tt) 7 n (omega arith))
 
-pair-read : (f : Format) (m : Modulation) → pairMeans f m ≡ true → readPair f (letterOfModulation m) ≡ PacketRead.Is (Packet.H f m)
+pair-read : (f : Format) (m : Modulation) → pairMeans f m ≡ true → readPair f (letterOfModulation m) ≡ packetRead (Packet.H f m)
 unfolding readPair
 pair-read f m e = simp (modulation-letter m .0, modulation-letter m .1, e)
 
-offset-read : (z : ℤ) → natAbs z ≤ 9999999 → readBody 0x47 (signOf z ∷ ascii (digits 10 7 (natAbs z))) ≡ PacketRead.Is (Packet.G z)
+offset-read : (z : ℤ) → natAbs z ≤ 9999999 → readBody 0x47 (signOf z ∷ ascii (digits 10 7 (natAbs z))) ≡ packetRead (Packet.G z)
 unfolding signedRead readSigned
 offset-read z h =
     offset-body (signOf z ∷ ascii (digits 10 7 (natAbs z))) (ap suc (ascii-length (digits 10 7 (natAbs z)) ∙ digits-length 10 (lit< tt) 7 (natAbs z)))
@@ -154,7 +154,7 @@ offset-read z h =
     ∙ simp (sign-sound z .0, sign-sound z .1)
 
 -- each packet's data is read as that packet
-data-read : (p : Packet) → fits p ≡ true → means p ≡ true → readBody (idOf p) (dataOf p) ≡ PacketRead.Is p
+data-read : (p : Packet) → fits p ≡ true → means p ≡ true → readBody (idOf p) (dataOf p) ≡ packetRead p
 unfolding dataOf
 data-read (Packet.A mode) f m =
     let e : 48 + mode - 48 ≡ mode = omega arith in
@@ -191,7 +191,7 @@ data-short (Packet.I c) = lit≤ tt
 data-short (Packet.K g) = lit≤ tt
 
 -- a packet that can be written is read back, whatever stands behind it
-pub read-written : (p : Packet) → fits p ≡ true → means p ≡ true → (rest : List ℕ) → readPacket (bytesOf p ++ rest) ≡ PacketRead.Is p
+pub read-written : (p : Packet) → fits p ≡ true → means p ≡ true → (rest : List ℕ) → readPacket (bytesOf p ++ rest) ≡ packetRead p
 read-written p f m rest = framed-read (idOf p) (dataOf p) rest (id-end p) (data-end p) (omega (arith, data-short p)) ∙ data-read p f m
 
 -- READ, THEN WRITTEN
@@ -213,9 +213,9 @@ place-is b (x ∷ xs) h = go (eqb x b) refl h (place-is b xs)
     go false e h f = f h
 
 -- the row, cut at its first 0x17
-module _ (row : List ℕ) (p : Packet) (h : readPacket row ≡ PacketRead.Is p) where
+module _ (row : List ℕ) (p : Packet) (h : readPacket row ≡ packetRead p) where
   accepted : (packetRefusal row ≡ 0) × (packetIn row ≡ p)
-  accepted = read-is row p h
+  accepted = let r = read-is row p (needsJamOff p) h in (r .0, r .1)
 
   abbrev body : List ℕ
   body = bodyOf row
@@ -297,11 +297,11 @@ module _ (row : List ℕ) (p : Packet) (h : readPacket row ≡ PacketRead.Is p) 
   unfolding bodyLines
   body-numbers = refl
 
-  reads-body : readBody id ds ≡ PacketRead.Is p
+  reads-body : readBody id ds ≡ packetRead p
   unfolding readBody
   reads-body =
       ap (λ (n : ℕ). readAs n (meaning id ds)) (ap (λ (b : List ℕ). given (bodyLines b)) (sym body-cons) ∙ given-zero (bodyLines body) body-numbers .1 (line-6 .1))
-      ∙ ap PacketRead.Is (accepted .1)
+      ∙ ap packetRead (accepted .1)
 
 -- id and data that read as a packet are that packet's own, or those of offset 0 with a minus
 record Own (id : ℕ) (ds : List ℕ) (p : Packet) : Type 0 where
@@ -358,10 +358,10 @@ two-of (d ∷ x ∷ []) l = refl
 two-of (d ∷ x ∷ y ∷ ds) l = absurd (omega arith)
 
 -- what an accepted body tells
-module _ (id : ℕ) (ds : List ℕ) (p : Packet) (h : readBody id ds ≡ PacketRead.Is p) where
+module _ (id : ℕ) (ds : List ℕ) (p : Packet) (h : readBody id ds ≡ packetRead p) where
   got : (given (bodyLines (id ∷ ds)) ≡ 0) × (meaning id ds ≡ p)
   unfolding readBody
-  got = is-by (given (bodyLines (id ∷ ds))) (meaning id ds) p (eqb (given (bodyLines (id ∷ ds))) 0) refl h
+  got = let r = is-by (given (bodyLines (id ∷ ds))) (meaning id ds) p (needsJamOff p) (eqb (given (bodyLines (id ∷ ds))) 0) refl h in (r .0, r .1)
 
   -- none of its four lines holds
   l7 : ((eqb (length (id ∷ ds)) 0 || eqb (length (kindsOf id)) 0) ≡ false) × (quiet (8 if not (eqb (length ds) (length (kindsOf id))) ∷ 9 if not (ofKinds (kindsOf id) ds) ∷ 10 if not (means (meaning id ds)) ∷ []) ≡ true)
@@ -388,7 +388,7 @@ module _ (id : ℕ) (ds : List ℕ) (p : Packet) (h : readBody id ds ≡ PacketR
 
 -- id by id
 module _ (ds : List ℕ) (p : Packet) where
-  own-mode : readBody 0x41 ds ≡ PacketRead.Is p → Own 0x41 ds p
+  own-mode : readBody 0x41 ds ≡ packetRead p → Own 0x41 ds p
   unfolding kindsOf meaning dataOf
   own-mode h =
       let d = getD ds 0 0 in
@@ -400,7 +400,7 @@ module _ (ds : List ℕ) (p : Packet) where
       subst (Own 0x41 ds) (got 0x41 ds p h .1)
       (record { fitting = le-leb (d - 48) 7 (omega arith); meant = meant 0x41 ds p h; bytes = inl (ap (framed 0x41) (one-of ds l ∙ ap (λ (x : ℕ). x ∷ []) q)) })
 
-  own-clock : readBody 0x49 ds ≡ PacketRead.Is p → Own 0x49 ds p
+  own-clock : readBody 0x49 ds ≡ packetRead p → Own 0x49 ds p
   unfolding kindsOf meaning dataOf
   own-clock h =
       let l : length ds ≡ 1 = same-length 0x49 ds p h in
@@ -408,7 +408,7 @@ module _ (ds : List ℕ) (p : Packet) where
       subst (Own 0x49 ds) (got 0x49 ds p h .1)
       (record { fitting = refl; meant = refl; bytes = inl (ap (framed 0x49) (one-of ds l ∙ ap (λ (x : ℕ). x ∷ []) (sym (clock-back (getD ds 0 0) k)))) })
 
-  own-generator : readBody 0x4B ds ≡ PacketRead.Is p → Own 0x4B ds p
+  own-generator : readBody 0x4B ds ≡ packetRead p → Own 0x4B ds p
   unfolding kindsOf meaning dataOf
   own-generator h =
       let l : length ds ≡ 1 = same-length 0x4B ds p h in
@@ -416,7 +416,7 @@ module _ (ds : List ℕ) (p : Packet) where
       subst (Own 0x4B ds) (got 0x4B ds p h .1)
       (record { fitting = refl; meant = refl; bytes = inl (ap (framed 0x4B) (one-of ds l ∙ ap (λ (x : ℕ). x ∷ []) (sym (generator-back (getD ds 0 0) k)))) })
 
-  own-format : readBody 0x48 ds ≡ PacketRead.Is p → Own 0x48 ds p
+  own-format : readBody 0x48 ds ≡ packetRead p → Own 0x48 ds p
   unfolding kindsOf meaning dataOf
   own-format h =
       let f = getD ds 0 0 in
@@ -462,7 +462,7 @@ cons-of : (ds : List ℕ) → 0 < length ds → ds ≡ getD ds 0 0 ∷ drop 1 ds
 cons-of [] l = absurd (omega arith)
 cons-of (d ∷ ds) l = refl
 
-own-offset : (ds : List ℕ) (p : Packet) → readBody 0x47 ds ≡ PacketRead.Is p → Own 0x47 ds p
+own-offset : (ds : List ℕ) (p : Packet) → readBody 0x47 ds ≡ packetRead p → Own 0x47 ds p
 unfolding kindsOf meaning offsetOf
 own-offset ds p h =
     let s = getD ds 0 0 in
@@ -482,11 +482,11 @@ unknown : (id : ℕ) → eqb id 0x41 ≡ false → eqb id 0x47 ≡ false → eqb
 unfolding kindsOf
 unknown id a g i j k n = let q = simp (a, g, i, j, k) at n in let z : _≡_ {A = ℕ} 0 1 = cc in omega arith
 
-own : (id : ℕ) (ds : List ℕ) (p : Packet) → readBody id ds ≡ PacketRead.Is p → Own id ds p
+own : (id : ℕ) (ds : List ℕ) (p : Packet) → readBody id ds ≡ packetRead p → Own id ds p
 own id ds p h = go (eqb id 0x41) refl (eqb id 0x47) refl (eqb id 0x48) refl (eqb id 0x49) refl (eqb id 0x4B) refl (known id ds p h)
   where
-    case : (k : ℕ) → eqb id k ≡ true → (readBody k ds ≡ PacketRead.Is p → Own k ds p) → Own id ds p
-    case k e f = subst (λ (i : ℕ). (readBody i ds ≡ PacketRead.Is p) → Own i ds p) (sym (eqb-true id k e)) f h
+    case : (k : ℕ) → eqb id k ≡ true → (readBody k ds ≡ packetRead p → Own k ds p) → Own id ds p
+    case k e f = subst (λ (i : ℕ). (readBody i ds ≡ packetRead p) → Own i ds p) (sym (eqb-true id k e)) f h
 
     go : (a : Bool) → eqb id 0x41 ≡ a → (g : Bool) → eqb id 0x47 ≡ g → (i : Bool) → eqb id 0x48 ≡ i → (j : Bool) → eqb id 0x49 ≡ j → (k : Bool) → eqb id 0x4B ≡ k → eqb (length (kindsOf id)) 0 ≡ false → Own id ds p
     go true e g _ i _ j _ k _ n = case 0x41 e (own-mode ds p)
@@ -496,8 +496,8 @@ own id ds p h = go (eqb id 0x41) refl (eqb id 0x47) refl (eqb id 0x48) refl (eqb
     go false _ false _ false _ false _ true e n = case 0x4B e (own-generator ds p)
     go false a false g false i false j false k n = absurd (unknown id a g i j k n)
 
-pub written-read : (row : List ℕ) (p : Packet) → readPacket row ≡ PacketRead.Is p → Holds row p
-written-read row p h =
+holds : (row : List ℕ) (p : Packet) → readPacket row ≡ packetRead p → Holds row p
+holds row p h =
     let o = own (id row p h) (ds row p h) p (reads-body row p h) in
     let rest = drop (suc (e row p h)) row in
     record {
@@ -509,6 +509,10 @@ written-read row p h =
           (λ q. inr (q .0, row-cut row p h ∙ ap (λ (l : List ℕ). l ++ rest) (q .1)))
           (o .bytes);
     }
+
+-- whatever is said of the jam beside it
+pub written-read : (row : List ℕ) (p : Packet) (needs : Bool) → readPacket row ≡ PacketRead.Is p needs → Holds row p
+written-read row p needs h = holds row p (read-as row p needs h)
 
 -- THE CALLS
 
@@ -524,7 +528,7 @@ unfolding writePacket rowWritten
 write-nothing p row h = let e = ne-eqb (writingRefusal p (length row)) 0 (λ z. h (write-number p (length row) ∙ z)) in (simp e, simp e)
 
 -- a packet written into a row reads back from that row, whatever stood there
-pub read-back : (p : Packet) (row : List ℕ) → writePacket p (length row) .number ≡ 0 → readPacket (rowWritten p row) ≡ PacketRead.Is p
+pub read-back : (p : Packet) (row : List ℕ) → writePacket p (length row) .number ≡ 0 → readPacket (rowWritten p row) ≡ packetRead p
 unfolding rowWritten writingRefusal
 read-back p row e =
     let z = sym (write-number p (length row)) ∙ e in
@@ -534,18 +538,18 @@ read-back p row e =
     (read-written p (not-false (fits p) (a .0)) (not-false (means p) (b .0)) (drop (length (bytesOf p)) row))
 
 -- each packet that is read can be written, into any row that has room for its bytes, and all of them are written
-pub write-read : (row : List ℕ) (p : Packet) → readPacket row ≡ PacketRead.Is p → (room : ℕ) → length (bytesOf p) ≤ room → writePacket p room ≡ packetWritten 0 (length (bytesOf p))
+pub write-read : (row : List ℕ) (p : Packet) (needs : Bool) → readPacket row ≡ PacketRead.Is p needs → (room : ℕ) → length (bytesOf p) ≤ room → writePacket p room ≡ packetWritten 0 (length (bytesOf p))
 unfolding writePacket writingRefusal
-write-read row p h room l = simp (written-read row p h .fitting, written-read row p h .meant, le-ltb room (length (bytesOf p)) l)
+write-read row p needs h room l = simp (written-read row p needs h .fitting, written-read row p needs h .meant, le-ltb room (length (bytesOf p)) l)
 
 same-size : length minusZero ≡ length (bytesOf (Packet.G (pos 0)))
 unfolding framed dataOf signOf ascii digits
 same-size = refl
 
 -- and the row from which it was read has that room
-pub room-read : (row : List ℕ) (p : Packet) → readPacket row ≡ PacketRead.Is p → length (bytesOf p) ≤ length row
-room-read row p h =
-    let o = written-read row p h in
+pub room-read : (row : List ℕ) (p : Packet) (needs : Bool) → readPacket row ≡ PacketRead.Is p needs → length (bytesOf p) ≤ length row
+room-read row p needs h =
+    let o = written-read row p needs h in
     ⊎-elim
     (λ (e : row ≡ bytesOf p ++ o .dropped). omega (arith, ap length e ∙ length-append (bytesOf p) (o .dropped)))
     (λ (e : (p ≡ Packet.G (pos 0)) × (row ≡ minusZero ++ o .dropped)).

@@ -21,7 +21,7 @@ sub-free c = queue-within _ (sym (c .before .is-lawful .ensures) ∙ c .if1 .tak
 store-row-requires : tie.Need-store-row-requires
 store-row-requires c κs =
     let d = c .before .before in
-    let l : length (d .before .before .before .args .card .queue .bytes) ≡ 64 = length-unmapped ℕ (d .before .before .before .args .card .queue .bytes) 64 (d .before .before .before .good .0 .1 .1 .1 .1 .1 .1 .1 .1 .0 .1 .1 .0 .1 .0 .1) in
+    let l : length (d .before .before .before .args .card .queue .bytes) ≡ 64 = length-unmapped ℕ (d .before .before .before .args .card .queue .bytes) 64 (d .before .before .before .good .0 .1 .1 .1 .1 .1 .1 .1 .1 .1 .0 .1 .1 .0 .1 .0 .1) in
     let f : d .before .before .before .args .card .queue .fill ≤ 64 = queue-within _ (sym (d .before .is-lawful .ensures) ∙ d .if1 .taken) in
     (l, ⊎-elim (λ w. omega arith) (λ w. omega arith) (c .before .if2 .came), ⊎-elim (λ w. omega arith) (λ w. omega arith) (c .before .if2 .came))
 
@@ -36,7 +36,7 @@ returns c =
     let d = c .before .before .before .before .before in
     let a = d .before .before .before .args in
     let k = sym (d .before .is-lawful .ensures) ∙ d .if1 .taken in
-    let l : length (a .card .queue .bytes) ≡ 64 = length-unmapped ℕ (a .card .queue .bytes) 64 (d .before .before .before .good .0 .1 .1 .1 .1 .1 .1 .1 .1 .0 .1 .1 .0 .1 .0 .1) in
+    let l : length (a .card .queue .bytes) ≡ 64 = length-unmapped ℕ (a .card .queue .bytes) 64 (d .before .before .before .good .0 .1 .1 .1 .1 .1 .1 .1 .1 .1 .0 .1 .1 .0 .1 .0 .1) in
     let s = below-each 256 (a .row .now) (λ i. omega (arith, d .before .before .shared-slice-known .given i)) in
     ⊎-elim
     (λ w. block-3 (a .card) (a .row .now) k l s _ _ _ (c .before .before .store-row .ensures) (w .0 .taken) (w .1) (w .2))

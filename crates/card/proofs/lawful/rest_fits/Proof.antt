@@ -22,26 +22,38 @@ settings-fit-requires c κs = search needs
 returns-3 : tie.Need-returns-3
 returns-3 c = rw (rest-parts _) (simp (sym (c .before .before .before .before .before .before .interrupts-fit .ensures) ∙ not-false _ (c .before .before .before .before .before .if1 .left), lt-ltb _ _ (c .before .before .before .if2 .left), sym (c .before .settings-fit .ensures) ∙ not-true _ (c .if3 .taken)))
 
-latches-fit-requires : tie.Need-latches-fit-requires
-latches-fit-requires c κs = search needs
+jam-fits-requires : tie.Need-jam-fits-requires
+jam-fits-requires c κs = search needs
 
 returns-4 : tie.Need-returns-4
 returns-4 c =
-    let s = c .before .before .before .before in
+    let s = c .before .before in
     let i = s .before .before .before in
     rw (rest-parts _)
-    (simp (sym (i .before .before .before .interrupts-fit .ensures) ∙ not-false _ (i .before .before .if1 .left), lt-ltb _ _ (i .if2 .left), sym (s .before .settings-fit .ensures) ∙ not-false _ (s .if3 .left), sym (c .before .latches-fit .ensures) ∙ not-true _ (c .if4 .taken)))
+    (simp (sym (i .before .before .before .interrupts-fit .ensures) ∙ not-false _ (i .before .before .if1 .left), lt-ltb _ _ (i .if2 .left), sym (s .before .settings-fit .ensures) ∙ not-false _ (s .if3 .left), sym (c .before .jam-fits .ensures) ∙ not-true _ (c .if4 .taken)))
+
+latches-fit-requires : tie.Need-latches-fit-requires
+latches-fit-requires c κs = search needs
+
+returns-5 : tie.Need-returns-5
+returns-5 c =
+    let j = c .before .before .before .before in
+    let s = j .before .before in
+    let i = s .before .before .before in
+    rw (rest-parts _)
+    (simp (sym (i .before .before .before .interrupts-fit .ensures) ∙ not-false _ (i .before .before .if1 .left), lt-ltb _ _ (i .if2 .left), sym (s .before .settings-fit .ensures) ∙ not-false _ (s .if3 .left), sym (j .before .jam-fits .ensures) ∙ not-false _ (j .if4 .left), sym (c .before .latches-fit .ensures) ∙ not-true _ (c .if5 .taken)))
 
 queue-fits-requires : tie.Need-queue-fits-requires
 queue-fits-requires c κs = search needs
 
-returns-5 : tie.Need-returns-5
-returns-5 c =
+returns-6 : tie.Need-returns-6
+returns-6 c =
     let l = c .before .before in
-    let s = l .before .before .before .before in
+    let j = l .before .before .before .before in
+    let s = j .before .before in
     let i = s .before .before .before in
     rw (rest-parts _)
-    (simp (sym (i .before .before .before .interrupts-fit .ensures) ∙ not-false _ (i .before .before .if1 .left), lt-ltb _ _ (i .if2 .left), sym (s .before .settings-fit .ensures) ∙ not-false _ (s .if3 .left), sym (l .before .latches-fit .ensures) ∙ not-false _ (l .if4 .left)) (c .queue-fits .ensures))
+    (simp (sym (i .before .before .before .interrupts-fit .ensures) ∙ not-false _ (i .before .before .if1 .left), lt-ltb _ _ (i .if2 .left), sym (s .before .settings-fit .ensures) ∙ not-false _ (s .if3 .left), sym (j .before .jam-fits .ensures) ∙ not-false _ (j .if4 .left), sym (l .before .latches-fit .ensures) ∙ not-false _ (l .if5 .left)) (c .queue-fits .ensures))
 
 pub rest-fits-spec : {M : Type 1} → statement M
 rest-fits-spec =
@@ -52,7 +64,9 @@ rest-fits-spec =
     returns-2
     settings-fit-requires
     returns-3
-    latches-fit-requires
+    jam-fits-requires
     returns-4
+    latches-fit-requires
+    returns-5
     queue-fits-requires
-    returns-5)
+    returns-6)

@@ -1,8 +1,7 @@
 -- `saved::load` meets its contract: each return is decided by the card and by what the bytes are loaded as.
 -- Assumes nothing.
-use mathlib.Core.Path.{sym, _∙_, ap}
+use mathlib.Core.Path.{sym, _∙_}
 use borrow.Author.Tests.{not-true, not-false}
-use Rattle.card.specs.declared.card.Card.{Card}
 use Rattle.parts.specs.declared.saved.SettingsRead.the-variants as SettingsRead
 use Rattle.card.proofs.saved.Calls.{load-18, load-read}
 use borrow.Author.Needs.{needs}
@@ -24,8 +23,8 @@ enum-told c = search needs
 enum-known-read : tie.Need-enum-known-read
 enum-known-read c = search needs
 
-with-settings-requires : tie.Need-with-settings-requires
-with-settings-requires c κs = search needs
+keep-settings-requires : tie.Need-keep-settings-requires
+keep-settings-requires c κs = search needs
 
 returns-2 : tie.Need-returns-2
 returns-2 c = let p = c .before .before .before in load-read _ _ (sym (p .before .is-lawful .ensures) ∙ not-false _ (p .if1 .left)) SettingsRead.Refused (sym (c .enum-told .given .1) ∙ c .before .before .load-settings .ensures)
@@ -33,7 +32,7 @@ returns-2 c = let p = c .before .before .before in load-read _ _ (sym (p .before
 returns-3 : tie.Need-returns-3
 returns-3 c =
     let p = c .before .before .before .before .before in
-    ap (λ (k : Card). record { card = k; number = 0 }) (c .with-settings .ensures)
+    c .keep-settings .ensures
     ∙ load-read _ _ (sym (p .before .is-lawful .ensures) ∙ not-false _ (p .if1 .left)) (SettingsRead.Is _) (sym (c .before .before .read .given .1) ∙ c .before .before .before .before .load-settings .ensures)
 
 pub load-spec : {M : Type 1} → statement M
@@ -45,6 +44,6 @@ load-spec =
     load-settings-requires
     enum-told
     enum-known-read
-    with-settings-requires
+    keep-settings-requires
     returns-2
     returns-3)

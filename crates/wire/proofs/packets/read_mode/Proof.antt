@@ -29,10 +29,14 @@ returns-4 c =
     rw (mode-body _ (c .before .before .before .before .before .if1 .left))
     (simp (le-leb _ _ (c .before .before .before .if2 .left), le-leb _ _ (c .before .before .if3 .left), sym (c .before .mode-means .ensures) ∙ not-true _ (c .if4 .taken)))
 
+packet-read-requires : tie.Need-packet-read-requires
+packet-read-requires c κs = search needs
+
 returns-5 : tie.Need-returns-5
 returns-5 c =
-    rw (mode-body _ (c .before .before .before .before .before .if1 .left))
-    (simp (le-leb _ _ (c .before .before .before .if2 .left), le-leb _ _ (c .before .before .if3 .left), sym (c .before .mode-means .ensures) ∙ not-false _ (c .if4 .left)))
+    rw (mode-body _ (c .before .before .before .before .before .before .if1 .left))
+    (simp (le-leb _ _ (c .before .before .before .before .if2 .left), le-leb _ _ (c .before .before .before .if3 .left), sym (c .before .before .mode-means .ensures) ∙ not-false _ (c .before .if4 .left))
+    (c .packet-read .ensures))
 
 pub read-mode-spec : {M : Type 1} → statement M
 read-mode-spec =
@@ -44,4 +48,5 @@ read-mode-spec =
     returns-3
     mode-means-requires
     returns-4
+    packet-read-requires
     returns-5)
