@@ -33,7 +33,7 @@ use Rattle.laws.specs.Calls.{Call, after, fed}
 use Rattle.laws.proofs.Blocks.{block-fed}
 use Rattle.laws.proofs.Keeps.{keeps}
 
--- ---- an empty queue, filled and taken as a packet
+-- ---- an empty queue, filled
 
 module _ (bs : List ℕ) (c : Card) (l : lawful c ≡ true) (z : c .queue ≡ emptyQueue) (room : length bs ≤ 64) (s : below 256 bs ≡ true) where
   pub fed-card : fed c bs ≡ withQueue c (joined emptyQueue bs)
