@@ -35,7 +35,7 @@ def registers(s):
     for register in range(20):
         if register:                # reading TIMEREQ changes the card
             s.call("", "r", register)
-    for register in (1, 5, 6, 10, 18, 255):
+    for register in (1, 5, 6, 10, 18, 19, 255):
         s.call("", "w", register, 0xFFFF)
     s.call("line with level 7", "l")
     s.show()
@@ -186,7 +186,8 @@ def held(s, jam, offset=-9_900):
     s.fresh()
     s.latch(1, *ZEROS)
     s.settings(5, 3, 1, 1, 1, OFFSETS.index(offset))
-    s.jam(jam)
+    if not jam:                     # it is on already
+        s.jam(0)
 
 
 def form_of(offset):
@@ -247,6 +248,12 @@ def jam_off(s, *six):
     s.jam(0)
 
 
+def closed_zero(s, control):
+    """A closed latch that is all zero, and a CONTROL beside it."""
+    s.event(control, *ZEROS)
+    s.closed(1, 0)
+
+
 # every way to break a range, each alone (an offset out of its range with the jam on breaks two, so it comes with the jam off too): what is said, what is set, and how
 TORN = (
     ("year 0", Script.time, (0, 1, 0)),
@@ -267,7 +274,8 @@ TORN = (
     ("mask 32", Script.interrupts, (32, 0, 0, 0)),
     ("pending 32", Script.interrupts, (0, 32, 0, 0)),
     ("level 8", Script.interrupts, (0, 0, 8, 0)),
-    ("CONTROL 4", Script.event, (4, *ZEROS)),
+    ("CONTROL 8", Script.event, (8, *ZEROS)),
+    ("a closed latch, CONTROL 3", closed_zero, (3,)),
     ("event latch with digit A", Script.event, (0, 0, 0x0100, 0, 0, 0xA000)),
     ("event latch with a spare digit", Script.event, (0, 0, 0x0100, 0, 0, 1)),
     ("event latch of day 0", Script.event, (0, 0, 0x0001, 0, 0, 0)),
@@ -308,7 +316,9 @@ SOUND = (
     ("strobe daily at 86399999 ms", Script.sources, (1, 86_399_999, 2, 2, 3)),
     ("count 4294836224 of 65535 and 65535", Script.sources, (2, 999, 65_535, 65_535, 65_535 * 65_535 - 1)),
     ("all bits", Script.interrupts, (31, 31, 7, 255)),
-    ("CONTROL 3, event latch of day 366", Script.event, (3, 3, 0x6623, 0x5959, 0x9999, 0x9990)),
+    ("CONTROL 7, event latch of day 366", Script.event, (7, 3, 0x6623, 0x5959, 0x9999, 0x9990)),
+    ("a closed latch, CONTROL 4", closed_zero, (4,)),
+    ("65535 missed, CONTROL 0", Script.closed, (0, 65_535)),
     ("time latch of day 1", Script.latch, (1, 0, 0x0100, 0, 0, 0)),
     ("mode 6, A with D, offset -9999999, jam off", jam_off, (6, 0, 1, 0, 0, 3)),
     ("offset 9901, jam off", jam_off, (0, 1, 0, 0, 0, 10)),
@@ -320,20 +330,27 @@ SOUND = (
 )
 
 
+# every call, most with arguments that a lawful card would refuse by another number
+EVERY = (("r", 99), ("w", 99, 0), ("w", 12, 0x81), ("w", 13, 1), ("b", 0, 1, 1), ("b", 65, 1, 1), ("e", 0), ("l",), ("j", 1), ("j", 0), ("x",), ("p", 4),
+         ("o", 4, 0, 0, 0, 0), ("o", 5, *form_of(25_000)), ("t", 0, 0, 0, 0, 0), ("d", 1, 1), ("q",), ("s", 1000), ("a", 24, 0, 0, 0), ("z",), ("n", 0, DAY + 1),
+         ("i", 0, DAY + 1), ("W", 99))
+
+
+def refused_18(s, words, calls=EVERY):
+    """A torn card through every call; nothing of it changes."""
+    assert not s.card.lawful()
+    s.say(words)
+    s.show()
+    for call in calls:
+        assert s.call("", *call)[0] == 18
+    s.show()
+
+
 def cards(s):
-    """Each torn card through every call, most with arguments that a lawful card would refuse by another number; nothing of the card changes."""
-    calls = (("r", 99), ("w", 99, 0), ("w", 12, 0x81), ("w", 13, 1), ("b", 0, 1, 1), ("b", 65, 1, 1), ("e", 0), ("l",), ("j", 1), ("j", 0), ("x",), ("p", 4),
-             ("o", 4, 0, 0, 0, 0), ("o", 5, *form_of(25_000)), ("t", 0, 0, 0, 0, 0), ("d", 1, 1), ("q",), ("s", 1000), ("a", 24, 0, 0, 0), ("z",), ("n", 0, DAY + 1),
-             ("i", 0, DAY + 1), ("W", 99))
     for words, put, values in TORN:
         s.fresh()
         put(s, *values)
-        assert not s.card.lawful()
-        s.say(words)
-        s.show()
-        for call in calls:
-            s.call("", *call)
-        s.show()
+        refused_18(s, words)
     for words, put, values in SOUND:
         s.fresh()
         put(s, *values)

@@ -23,7 +23,8 @@ def everything(s):
     s.time(*PAGE_TIME)
     s.sources(2, 200, 2000, 3000, 1_234_567)
     s.interrupts(21, 26, 5, 0xC3)
-    s.event(1, *STAMPED)
+    s.event(5, *STAMPED)
+    s.closed(1, 54_321)
     s.latch(1, *LATCHED)
     s.settings(*OTHER, 3)
     s.jam(0)
@@ -93,8 +94,9 @@ def time_latch(s):
 
 
 def edges(s):
-    s.say("Edges: both kinds, with each CONTROL, masked or not, and bit 0 pending before or not")
+    s.say("Edges: both kinds, with each CONTROL whose bit 2 is clear, masked or not, and bit 0 pending before or not")
     everything(s)
+    s.closed(0, 54_321)
     for control in range(4):
         for falling in range(2):
             for mask, pending in ((0, 26), (31, 26), (0, 27)):
@@ -107,6 +109,7 @@ def edges(s):
                 s.do("r", register)
     s.say("A second edge stamps anew, and the latch stays while the time goes on")
     everything(s)
+    s.do("w", 11, 1)
     s.do("e", 0)
     s.time(8, 366, 5)
     s.show()
@@ -240,7 +243,7 @@ def resets(s):
     everything(s)
     s.show()
     s.do("x")
-    for register in range(1, 18):
+    for register in range(1, 19):
         if register != 13:
             s.do("r", register)
     s.do("l")
@@ -263,10 +266,10 @@ def others(s):
         everything(s)
         s.settings(*OTHER, OFFSETS.index(-9_900))
         s.jam(jam)
-        for call in (("r", 0), ("r", 12), ("r", 13), ("w", 99, 0), ("w", 0, 0), ("w", 11, 5), ("e", 0), ("r", 15), ("e", 1), ("l",), ("w", 12, 1), ("w", 13, 1), ("b", 2, 1, 1),
-                     ("b", 80, 1, 1), ("w", 14, 31), ("w", 15, 1), ("w", 16, 7), ("w", 17, 1), ("t", 0, 1, 0, 0, 0), ("t", 2004, 1, 0, 0, 0), ("s", 1000), ("s", 0),
-                     ("a", 24, 0, 0, 0), ("a", 0, 0, 0, 0), ("z",), ("d", 1, 1), ("d", 2000, 2000), ("q",), ("p", 5), ("o", 0), ("n", 0, 1), ("n", 1, 1), ("i", 1, 1),
-                     ("w", 12, 0x80)):
+        for call in (("r", 0), ("r", 12), ("r", 13), ("w", 99, 0), ("w", 0, 0), ("w", 11, 5), ("e", 0), ("r", 18), ("w", 18, 1), ("e", 0), ("r", 15), ("e", 1), ("l",),
+                     ("w", 12, 1), ("w", 13, 1), ("b", 2, 1, 1), ("b", 80, 1, 1), ("w", 14, 31), ("w", 15, 1), ("w", 16, 7), ("w", 17, 1), ("t", 0, 1, 0, 0, 0),
+                     ("t", 2004, 1, 0, 0, 0), ("s", 1000), ("s", 0), ("a", 24, 0, 0, 0), ("a", 0, 0, 0, 0), ("z",), ("d", 1, 1), ("d", 2000, 2000), ("q",), ("p", 5), ("o", 0),
+                     ("n", 0, 1), ("n", 1, 1), ("i", 1, 1), ("w", 12, 0x80)):
             s.call("", *call)
         s.show()
 

@@ -1,11 +1,12 @@
-"""How a script is written, and what the page says of each of its lines: used by refusals.py, registers.py, blocks.py, waits.py, times.py, periods.py and elements.py.
+"""How a script is written, and what the page says of each of its lines: used by refusals.py, registers.py, blocks.py, waits.py, trips.py, times.py, periods.py and
+elements.py.
 
 A line is what is to be said, a bar, and a call: a letter and decimal numbers. A line with no call is only said. Some calls only change the card, and say nothing:
 
     N a fresh card                        T YEAR DAY TICK                      S KIND MS N1 N2 COUNT (kind 0 off, 1 daily, 2 each second)
     I MASK PENDING LEVEL VECTOR           E CONTROL and five words             L DONE and five words, of the time latch
     Q FILL PLACE BYTE                     F COUNT and bytes, written to FIFO   M MODE FORMAT MODULATION CLOCK GENERATOR OFFSET
-    O JAM
+    O JAM                                 C CLOSED MISSED, the count
 
 Behind the others stand their number and what else they give back:
 
@@ -15,16 +16,20 @@ Behind the others stand their number and what else they give back:
     J PLACES (I with E)   K PLACES (K with H)   c WANTED (the nearest pair)   u HIGH LOW (the same, to HIGH x 4294967296 + LOW)   v what stands in the card
     W PLACES (the card's frame)   m PLACE ELEMENT (the card's frame with another element, read)   R ROW (a frame read)   Y HELD MARKED PLACES ROW (a stream takes a row)
     y HELD MARKED PLACES (whether the stream is lawful)   j ON (the jam's switch)   P COUNT and bytes (a packet read on its own, of at most 64)
+    k TIMES FALLING (so many edges, one after another)
 
-Formats are A, B, C, N, X as 0 to 4; modulation D, clock external and generator H are 1; an offset is its place in OFFSETS; JAM and ON are 1 for on, else off. The bytes
-of a block are FIRST and each one STEP more than the one before, from 0 on again behind 255; there are at most 80. Lent places, ten for a wait, twelve for bytes and 104
-for a frame, hold 7 before. The elements of a row, and the places of a stream's record, stand without spaces, each as the character whose code is 48 more, so that 0 to 9
-are their digits and / is 255; a record has zeros behind the places that a line has. Behind the number that a row gives stand how many elements were taken; 0, or 1 and
-the frame's number, day and tick; and the record afterwards. Behind the number of a packet that was read stand its id; 1 if its value is below 0; the size of the value,
-of a letter its byte; for H the modulation's byte, else 0; and 1 if it needs the jam off. All five are 0 if it was refused.
+Formats are A, B, C, N, X as 0 to 4; modulation D, clock external and generator H are 1; an offset is its place in OFFSETS; JAM and ON are 1 for on, else off; CLOSED is
+1 for a closed event latch, else it is open. E leaves closed or open, and the count, as they were. The bytes of a block are FIRST and each one STEP more than the one
+before, from 0 on again behind 255; there are at most 80. There are at most 70,000 edges on a line; behind them stands the number of the last, 0 if there is none. Lent
+places, ten for a wait, twelve for bytes and 104 for a frame, hold 7 before. The elements of a row, and the places of a stream's record, stand without spaces, each as
+the character whose code is 48 more, so that 0 to 9 are their digits and / is 255; a record has zeros behind the places that a line has. Behind the number that a row
+gives stand how many elements were taken; 0, or 1 and the frame's number, day and tick; and the record afterwards. Behind the number of a packet that was read stand its
+id; 1 if its value is below 0; the size of the value, of a letter its byte; for H the modulation's byte, else 0; and 1 if it needs the jam off. All five are 0 if it was
+refused.
 
-A card is shown as year, day and tick; strobe, 0 or its kind and milliseconds; periodic, 0 or n1, n2 and count; mask, pending, level, vector; CONTROL and the event latch;
-the time latch; mode, format, modulation, clock, generator, minus, size of the offset; jam; done; the queue's fill; and each of its 64 bytes that is not 0, as place:byte.
+A card is shown as year, day and tick; strobe, 0 or its kind and milliseconds; periodic, 0 or n1, n2 and count; mask, pending, level, vector; CONTROL; 1 if the event
+latch is closed; the missed edges; the event latch; the time latch; mode, format, modulation, clock, generator, minus, size of the offset; jam; done; the queue's fill;
+and each of its 64 bytes that is not 0, as place:byte.
 
 The answers are worked out here from the page; nothing of crates/ is read. What a wait lists is found by going through its window tick by tick. Days are counted by
 Python's own calendar.
@@ -44,6 +49,7 @@ FORBIDDEN = ((0, 0), (2, 1), (4, 1))        # A with M, C with D, X with D
 ZEROS = (0, 0, 0, 0, 0)
 WAIT_PLACES, BYTE_PLACES, FRAME_PLACES, UNTOUCHED = 10, 12, 104, 7
 LONGEST_PACKET = 64         # bytes that a line can have to be read as a packet
+MOST_MISSED, MOST_EDGES = 65_535, 70_000        # where the count holds; what one line can have
 
 
 def days_in(year):
@@ -138,6 +144,7 @@ class Card:
         self.strobe, self.periodic = (0,), (0,)     # off; else the kind and milliseconds, and n1, n2 and count
         self.mask = self.pending = self.level = self.vector = 0
         self.control, self.event_latch, self.time_latch = 0, ZEROS, ZEROS
+        self.closed = self.missed = 0       # the event latch, and the count of edges that it missed
         self.mode, self.form, self.modulation, self.clock, self.generator, self.offset = 0, 1, 0, 0, 0, 0
         self.jam = 1
         self.done, self.queue, self.fill = 0, [0] * 64, 0
@@ -149,7 +156,7 @@ class Card:
         return (1 <= year <= 9999 and 1 <= day <= days_in(year) and tick < DAY
                 and ms < (1, 86_400_000, 1000)[kind]
                 and n1 >= 2 and n2 >= 2 and count < n1 * n2
-                and self.mask < 32 and self.pending < 32 and self.level < 8 and self.control < 4
+                and self.mask < 32 and self.pending < 32 and self.level < 8 and self.control in (range(4, 8) if self.closed else range(8))
                 and all(latch == ZEROS or read_words(latch)[0] == 0 for latch in (self.time_latch, self.event_latch))
                 and self.mode in (0, 1, 2, 3, 5, 6) and (self.form, self.modulation) not in FORBIDDEN and abs(self.offset) <= 9_999_999
                 and not (self.jam and beyond(self.offset))
@@ -157,8 +164,9 @@ class Card:
 
     def shown(self):
         queued = (f"{place}:{byte}" for place, byte in enumerate(self.queue) if byte)
-        return (*self.time, *self.strobe, *self.periodic, self.mask, self.pending, self.level, self.vector, self.control, *self.event_latch, *self.time_latch,
-                self.mode, self.form, self.modulation, self.clock, self.generator, int(self.offset < 0), abs(self.offset), self.jam, self.done, self.fill, *queued)
+        return (*self.time, *self.strobe, *self.periodic, self.mask, self.pending, self.level, self.vector, self.control, self.closed, self.missed,
+                *self.event_latch, *self.time_latch, self.mode, self.form, self.modulation, self.clock, self.generator, int(self.offset < 0), abs(self.offset),
+                self.jam, self.done, self.fill, *queued)
 
     def words(self):
         return write_words(*self.time[1:])[1:]
@@ -166,25 +174,27 @@ class Card:
     # registers
 
     def read(self, register):
-        if register > 17:
+        if register > 18:
             return 1, 0
         if register == 13:
             return 2, 0
         if register == 0:
             self.time_latch = self.words()
             return 0, 0
-        named = (0, *self.time_latch, *self.event_latch, self.control, self.done, 0, self.mask, self.pending, self.level, self.vector)
+        named = (0, *self.time_latch, *self.event_latch, self.control, self.done, 0, self.mask, self.pending, self.level, self.vector, self.missed)
         return 0, named[register]
 
     def write(self, register, value):
-        if register > 17:
+        if register > 18:
             return (1,)
         if 1 <= register <= 10:
             return (2,)
         if register == 0:
             self.time_latch = self.words()
         elif register == 11:
-            self.control = value & 3
+            self.control = value & 7
+            if not value & 4:
+                self.closed = 0
         elif register == 12:
             return self.acknowledge(value)
         elif register == 13:
@@ -198,8 +208,10 @@ class Card:
             self.pending &= ~value
         elif register == 16:
             self.level = value & 7
-        else:
+        elif register == 17:
             self.vector = value & 0xFF
+        else:
+            self.closed = self.missed = 0
         return (0,)
 
     def block(self, count, first, step):
@@ -234,10 +246,20 @@ class Card:
             self.generator = int(said == "H")
 
     def edge(self, falling):
-        if self.control == (3 if falling else 1):
-            self.event_latch = self.words()
+        if self.control & 3 == (3 if falling else 1):
             self.pending |= 1
+            if self.closed:
+                self.missed = min(self.missed + 1, MOST_MISSED)
+            else:
+                self.event_latch, self.closed = self.words(), int(self.control & 4 != 0)
         return (0,)
+
+    def edges(self, times, falling):
+        """One after another; the number is that of the last."""
+        number = (0,)
+        for _ in range(min(times, MOST_EDGES)):
+            number = self.edge(falling)
+        return number
 
     def line(self):
         return (0, 1, self.level, self.vector) if self.level and self.mask & self.pending else (0, 0, 0, 0)
@@ -360,6 +382,7 @@ CALLS = {
     "w": (Card.write, (), "write register {} with {:#06x}"),
     "b": (Card.block, (0,), "block of {}, {} and steps of {}"),
     "e": (Card.edge, (), "input edge"),
+    "k": (Card.edges, (), "input edges"),
     "l": (Card.line, (0, 0, 0), "interrupt line"),
     "j": (Card.switch, (), "jam"),
     "x": (Card.reset, (), "reset"),
@@ -380,6 +403,8 @@ CALLS = {
 def in_words(letter, *numbers):
     if letter == "e":
         return "falling edge" if numbers[0] else "rising edge"
+    if letter == "k":
+        return f"{in_words('e', numbers[1])}, {numbers[0]} times"
     if letter == "j":
         return "jam on" if numbers[0] else "jam off"
     return CALLS[letter][2].format(*numbers)
@@ -422,6 +447,10 @@ class Script:
     def event(self, control, *words):
         self.ask("", "E", control, *words)
         self.card.control, self.card.event_latch = control, words
+
+    def closed(self, closed, missed):
+        self.ask("", "C", closed, missed)
+        self.card.closed, self.card.missed = closed, missed
 
     def latch(self, done, *words):
         self.ask("", "L", done, *words)

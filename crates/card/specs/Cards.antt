@@ -1,5 +1,5 @@
--- The card with one part changed. There is no update of a record in this language, so each part has its definition here, which writes out that the others stay; each
--- part has the same for its own fields, and a reset card is written out whole in `Reset`.
+-- The card with one part changed. There is no update of a record in this language, so each part has its definition here, which writes out that the others stay;
+-- clock and interrupt registers have the same for their own fields, the other parts write out what a call makes of them, and a reset card is written out whole in `Reset`.
 use Prim.Native.Nat.{ℕ}
 use mathlib.Core.Bool.{Bool}
 use mathlib.Core.List.{List}

@@ -8,8 +8,7 @@ use Rattle.wire.specs.Digits.{pick}
 use Rattle.wire.specs.Numbers.{Line, _if_, given}
 use Rattle.wire.specs.Words.{wordsOf}
 use Rattle.clock.specs.declared.time.Time.{Time}
-use Rattle.parts.specs.Pending.{bit}
-use Rattle.parts.specs.Events.{withControl, withLatch}
+use Rattle.parts.specs.Events.{controlWritten, opened, matching, edgeTaken}
 use Rattle.parts.specs.Interrupts.{interruptsWritten, eventRaised, lineUp}
 use Rattle.parts.specs.Queues.{enqueued}
 use Rattle.card.specs.declared.card.Card.{Card}
@@ -22,7 +21,7 @@ use Rattle.card.specs.Packets.{acknowledged}
 
 -- the last register's number
 abbrev pub lastRegister : ℕ
-lastRegister = 17
+lastRegister = 18
 
 abbrev pub value : Card → ℕ → ℕ → Value
 value c n v = record { card = c; number = n; value = v }
@@ -58,7 +57,8 @@ shown c reg =
     (pick (eqb reg 14) (c .interrupts .mask)
     (pick (eqb reg 15) (c .interrupts .pending)
     (pick (eqb reg 16) (c .interrupts .level)
-    (c .interrupts .vector))))))))
+    (pick (eqb reg 17) (c .interrupts .vector)
+    (c .event .missed)))))))))
 
 -- reading TIMEREQ latches the time; no other reading changes anything
 unfoldable pub readRegister : Card → ℕ → Value
@@ -83,10 +83,11 @@ writeRefusal known reg fill = given (writeLines known reg fill)
 unfoldable pub written : Card → ℕ → ℕ → Answer
 written c reg v =
     pick (eqb reg 0) (answer (withTimeLatch c (wordsNow c)) 0)
-    (pick (eqb reg 11) (answer (withEvent c (withControl (c .event) (v % 4))) 0)
+    (pick (eqb reg 11) (answer (withEvent c (controlWritten (c .event) v)) 0)
     (pick (eqb reg 12) (acknowledged c v)
     (pick (eqb reg 13) (answer (withQueue c (enqueued (c .queue) (v % 256))) 0)
-    (answer (withInterrupts c (interruptsWritten (c .interrupts) reg v)) 0))))
+    (pick (eqb reg 18) (answer (withEvent c (opened (c .event))) 0)
+    (answer (withInterrupts c (interruptsWritten (c .interrupts) reg v)) 0)))))
 
 unfoldable pub writeRegister : Card → ℕ → ℕ → Answer
 writeRegister c reg v =
@@ -94,17 +95,13 @@ writeRegister c reg v =
 
 -- EDGES
 
--- capture is on, and the edge of the chosen kind: bit 1 falling, else rising
-unfoldable pub captures : ℕ → Bool → Bool
-captures control falling = bit 1 control && pick falling (bit 2 control) (not (bit 2 control))
-
--- a captured edge copies the time to the event latch and raises pending bit 0
-abbrev pub captured : Card → Card
-captured c = withInterrupts (withEvent c (withLatch (c .event) (wordsNow c))) (eventRaised (c .interrupts))
+-- a matching edge is captured, with the time, or missed, and raises pending bit 0 either way
+abbrev pub matched : Card → Card
+matched c = withInterrupts (withEvent c (edgeTaken (c .event) (wordsNow c))) (eventRaised (c .interrupts))
 
 -- any other edge changes nothing
 unfoldable pub edge : Card → Bool → Answer
-edge c falling = granted (18 if not (lawful c) ∷ []) c (pick (captures (c .event .control) falling) (captured c) c)
+edge c falling = granted (18 if not (lawful c) ∷ []) c (pick (matching (c .event .control) falling) (matched c) c)
 
 -- THE LINE
 

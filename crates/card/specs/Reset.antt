@@ -16,6 +16,7 @@ use Rattle.parts.specs.declared.settings.Settings.{Settings}
 use Rattle.card.specs.declared.card.Card.{Card}
 use Rattle.card.specs.declared.card.Answer.{Answer}
 use Rattle.card.specs.Cards.{granted}
+use Rattle.parts.specs.Events.{clearEvent}
 use Rattle.parts.specs.Queues.{emptyQueue}
 use Rattle.card.specs.Lawful.{lawful}
 
@@ -26,7 +27,7 @@ resetCard t s =
       queue = emptyQueue;
       clock = record { time = t; strobe = Strobe.Off; periodic = Periodic.Off };
       «time_latch» = zeroWords;
-      event = record { control = 0; latch = zeroWords };
+      event = clearEvent;
       settings = record { mode = s .mode; format = s .format; modulation = s .modulation; clock = ClockSource.Internal; generator = s .generator; offset = pos 0 };
       jam = true;
       interrupts = record { mask = 0; pending = 0; level = 0; vector = 0 };

@@ -2,6 +2,7 @@
 // longest, last.
 use crate::card::Card;
 use clock::lawful::clock_fits;
+use parts::event::control_fits;
 use parts::event::latches_fit;
 use parts::interrupts::interrupts_fit;
 use parts::queue::queue_fits;
@@ -18,7 +19,7 @@ pub(crate) fn rest_fits(card: Card) -> bool
     if !interrupts_fit(interrupts) {
         return false;
     }
-    if 4 <= card.event.control {
+    if !control_fits(card.event.control, card.event.closed) {
         return false;
     }
     let settings = card.settings;

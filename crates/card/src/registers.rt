@@ -4,6 +4,10 @@ use crate::card::Card;
 use crate::lawful::is_lawful;
 use crate::packets::acknowledge;
 use clock::time::Time;
+use parts::event::is_matching;
+use parts::event::open_latch;
+use parts::event::take_edge;
+use parts::event::write_control;
 use parts::interrupts::is_up;
 use parts::interrupts::raise_event;
 use parts::interrupts::write_interrupts;
@@ -15,10 +19,10 @@ ghost use Prim.Native.Nat.{_≤_, _<_};
 ghost use lib.ListN.{getD, set};
 ghost use Rattle.clock.specs.Time.{timeLawful};
 ghost use Rattle.card.specs.Lawful.{lawful};
-ghost use Rattle.card.specs.Registers.{wordsAt, readRefusal, shown, readRegister, writeRefusal, writeRegister, captures, edge, line};
+ghost use Rattle.card.specs.Registers.{wordsAt, readRefusal, shown, readRegister, writeRefusal, writeRegister, edge, line};
 
 // The last register's number.
-pub const LAST_REGISTER: u8 = 17;
+pub const LAST_REGISTER: u8 = 18;
 
 // What reading a register answers: the card afterwards, the number and the value, 0 beside a refusal.
 pub struct Value {
@@ -88,7 +92,8 @@ fn show(card: Card, reg: u8) -> u16
         14 => card.interrupts.mask as u16,
         15 => card.interrupts.pending as u16,
         16 => card.interrupts.level as u16,
-        _ => card.interrupts.vector as u16,
+        17 => card.interrupts.vector as u16,
+        _ => card.event.missed,
     }
 }
 
@@ -162,10 +167,16 @@ fn write_other(card: Card, known: bool, reg: u8, value: u16) -> Answer
                 c.time_latch = words;
             }
             11 => {
-                let control = (value % 4) as u8;
-                c.event.control = control;
+                let event = card.event;
+                let event = write_control(event, value);
+                c.event = event;
             }
             12 => return acknowledge(card, value),
+            18 => {
+                let event = card.event;
+                let event = open_latch(event);
+                c.event = event;
+            }
             _ => {
                 let interrupts = card.interrupts;
                 let interrupts = write_interrupts(interrupts, reg, value);
@@ -220,43 +231,28 @@ pub fn write_register(card: Card, reg: u8, value: u16) -> Answer
     write_other(card, is_lawful(card), reg, value)
 }
 
-// Whether an edge is captured: capture is on, and the edge is of the chosen kind.
-fn is_captured(control: u8, falling: bool) -> bool
-    ensures { λ r. ⌜ r ≡ captures control falling ⌝ }
-{
-    if control % 2 == 0 {
-        return false;
-    }
-    if falling {
-        return control / 2 % 2 == 1;
-    }
-    control / 2 % 2 != 1
-}
-
-// An input edge, rising or falling. One that is captured copies the time to the event latch and raises pending bit 0; any other changes nothing.
+// An input edge, rising or falling. A matching one is captured or missed, and raises pending bit 0 either way; any other changes nothing.
 pub fn input_edge(card: Card, falling: bool) -> Answer
     ensures { λ r. ⌜ r ≡ edge card falling ⌝ }
 {
     let mut c = card;
-    if !is_lawful(card) {
-        return Answer {
-            card: c,
-            number: numbers::UNLAWFUL,
-        };
-    }
-    if is_captured(card.event.control, falling) {
-        let time = card.clock.time;
-        let words = words_at(time);
-        let interrupts = card.interrupts;
-        let interrupts = raise_event(interrupts);
-        let mut event = card.event;
-        event.latch = words;
-        c.event = event;
-        c.interrupts = interrupts;
+    let mut number: u8 = numbers::DONE;
+    if is_lawful(card) {
+        if is_matching(card.event.control, falling) {
+            let event = card.event;
+            let tick = card.clock.time.tick;
+            let event = take_edge(event, card.clock.time.day, tick);
+            let interrupts = card.interrupts;
+            let interrupts = raise_event(interrupts);
+            c.event = event;
+            c.interrupts = interrupts;
+        }
+    } else {
+        number = numbers::UNLAWFUL;
     }
     Answer {
         card: c,
-        number: numbers::DONE,
+        number: number,
     }
 }
 

@@ -38,6 +38,8 @@ fn reset_card(time: Time, settings: Settings) -> Card
         time_latch: [0, 0, 0, 0, 0],
         event: Event {
             control: 0,
+            closed: false,
+            missed: 0,
             latch: [0, 0, 0, 0, 0],
         },
         settings: Settings {

@@ -19,7 +19,7 @@ use Rattle.card.specs.Reset.{freshCard}
 use Rattle.card.specs.Setting.{switchJam}
 use Rattle.card.proofs.lawful.Laws.{parts}
 use Rattle.laws.specs.Calls.{Call, after, number, afterAll, Field, among, Same, packetTouches, writeTouches, touches, SwitchesJam}
-use Rattle.laws.proofs.Frame.{frame, Without, read-without, write-without}
+use Rattle.laws.proofs.Frame.{frame, Without, read-without, edge-without, write-without}
 use Rattle.laws.proofs.Keeps.{fresh-all}
 use Rattle.laws.proofs.Latches.{reset-answers}
 use Rattle.laws.proofs.Refused.{accepted-lawful}
@@ -36,7 +36,7 @@ packet-no-jam (Packet.K g) = refl
 
 write-no-jam : (reg v : ℕ) (c : Card) → Without Field.jam (writeTouches reg v c)
 unfolding among
-write-no-jam reg v c = write-without Field.jam refl refl packet-no-jam refl refl refl refl refl refl reg v c (λ e. refl)
+write-no-jam reg v c = write-without Field.jam refl refl packet-no-jam refl refl refl refl refl refl refl refl reg v c (λ e. refl)
 
 -- a call that may not touch it leaves it
 same : (k : Call) (c : Card) → Without Field.jam (touches k c) → (after k c .jam ≡ c .jam) ⊎ SwitchesJam k
@@ -49,7 +49,7 @@ jam-switching (Call.setTime year day hour minute second) c = same (Call.setTime 
 jam-switching (Call.read reg) c = same (Call.read reg) c (read-without Field.jam refl reg)
 jam-switching (Call.write reg v) c = same (Call.write reg v) c (write-no-jam reg v c)
 jam-switching (Call.block row) c = same (Call.block row) c refl
-jam-switching (Call.edge falling) c = same (Call.edge falling) c refl
+jam-switching (Call.edge falling) c = same (Call.edge falling) c (edge-without Field.jam refl refl refl falling (c .event))
 jam-switching Call.line c = same Call.line c refl
 jam-switching (Call.setStrobe s) c = same (Call.setStrobe s) c refl
 jam-switching (Call.setPeriodic d) c = same (Call.setPeriodic d) c refl

@@ -6,7 +6,6 @@ use mathlib.Core.List.{List, [], _∷_}
 use native.Mathlib.Omega.{arith}
 use lib.Dec.{lit<}
 use lib.ListN.{length}
-use borrow.Author.Tests.{lt-ltb}
 use Rattle.wire.specs.Numbers.{given}
 use Rattle.wire.specs.Packets.{packetIn}
 use Rattle.wire.specs.declared.packets.ClockSource.the-variants as ClockSource
@@ -23,12 +22,12 @@ use Rattle.parts.specs.declared.queue.Queue.{Queue}
 use Rattle.parts.specs.declared.event.Event.{Event}
 use Rattle.parts.specs.declared.settings.Settings.{Settings}
 use Rattle.parts.specs.declared.interrupts.Interrupts.{Interrupts}
-use Rattle.parts.specs.Events.{withLatch, latchLawful, eventLawful}
+use Rattle.parts.specs.Events.{latchLawful, eventLawful}
 use Rattle.parts.specs.Interrupts.{interruptsLawful}
 use Rattle.parts.specs.Pending.{bit}
 use Rattle.parts.specs.Queues.{queueLawful, emptyQueue, queued}
 use Rattle.parts.specs.Settings.{settingsLawful, jamFits}
-use Rattle.parts.proofs.event.Laws.{event-parts, event-lawful, read-lawful, zero-lawful}
+use Rattle.parts.proofs.event.Laws.{read-lawful, zero-lawful, reset-lawful as event-reset, control-lawful, opened-lawful, edge-lawful}
 use Rattle.parts.proofs.interrupts.Laws.{Ranges, ranges, within}
 use Rattle.parts.proofs.interrupts.Bits.{raised-below, sources-below, cleared-within}
 use Rattle.parts.proofs.queue.Laws.{empty-lawful, enqueued-lawful}
@@ -104,7 +103,7 @@ reset-lawful t s e f =
     whole (resetCard t s)
     (record {
       interrupts = within _ (record { mask = lit< tt; pending = lit< tt; level = lit< tt });
-      event = event-lawful _ refl zero-lawful;
+      event = event-reset;
       timeLatch = zero-lawful;
       settings = settings.reset-lawful s ClockSource.Internal f;
       jam = refl;
@@ -126,7 +125,7 @@ module _ (c : Card) (h : lawful c ≡ true) where
   kept k d Effect.reads-time = keeps-time-latch c h _ (words-lawful c h)
   kept k d (Effect.reads-other reg e) = h
   kept k d (Effect.requests-time v) = keeps-time-latch c h _ (words-lawful c h)
-  kept k d (Effect.writes-control v) = keeps-event c h _ (event-lawful _ (lt-ltb (v % 4) 4 (omega arith)) (event-parts (c .event) (parts c h .event) .1))
+  kept k d (Effect.writes-control v) = keeps-event c h _ (control-lawful (c .event) (parts c h .event) v)
   kept k d (Effect.clears-done v e) = by (λ (x : Card). lawful x ≡ true) (bit 1 v) (λ f. keeps-done c h false) (λ f. h)
   kept k d (Effect.takes-packet v b e) =
       let a = ack-accepts (c .jam) (queued (c .queue)) e in
@@ -141,8 +140,9 @@ module _ (c : Card) (h : lawful c ≡ true) where
       keeps-interrupts c h _ (within _ (record { mask = r .mask; pending = omega (arith, cleared-within v (i .pending), r .pending); level = r .level }))
   kept k d (Effect.writes-level v) = keeps-interrupts c h _ (within _ (record { mask = r .mask; pending = r .pending; level = omega arith }))
   kept k d (Effect.writes-vector v) = keeps-interrupts c h _ (within _ (record { mask = r .mask; pending = r .pending; level = r .level }))
-  kept k d (Effect.captures-edge falling e) =
-      let w = keeps-event c h (withLatch (c .event) (wordsNow c)) (event-lawful _ (event-parts (c .event) (parts c h .event) .0) (words-lawful c h)) in
+  kept k d (Effect.opens-latch v) = keeps-event c h _ (opened-lawful (c .event) (parts c h .event))
+  kept k d (Effect.matches-edge falling e) =
+      let w = keeps-event c h _ (edge-lawful (c .event) (parts c h .event) (wordsNow c) (words-lawful c h)) in
       keeps-interrupts _ w _ (within _ (record { mask = r .mask; pending = raised-below true 0 (i .pending) (lit< tt) (r .pending); level = r .level }))
   kept k d (Effect.passes-edge falling e) = h
   kept k d Effect.tells-line = h

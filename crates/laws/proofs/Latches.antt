@@ -11,18 +11,21 @@ use Rattle.wire.specs.Words.{zeroWords}
 use Rattle.wire.proofs.digits.Laws.{clash}
 use Rattle.wire.specs.declared.packets.Packet.{Packet}
 use Rattle.wire.specs.declared.packets.Packet.the-variants as Packet
+use Rattle.parts.specs.declared.event.Event.{Event}
+use Rattle.parts.specs.Events.{matching}
+use Rattle.parts.proofs.event.Laws.{edge-captures}
 use Rattle.card.specs.declared.card.Card.{Card}
 use Rattle.card.specs.declared.card.Answer.{Answer}
 use Rattle.card.specs.declared.registers.Value.{Value}
 use Rattle.card.specs.Cards.{answer, granted, withTimeLatch}
 use Rattle.card.specs.Lawful.{lawful}
 use Rattle.card.specs.Registers
-use Rattle.card.specs.Registers.{captured, value, wordsNow, readRefusal, readRegister, shown, writeRefusal, writeRegister, written, captures}
+use Rattle.card.specs.Registers.{value, wordsNow, readRefusal, readRegister, shown, writeRefusal, writeRegister, written, matched}
 use Rattle.card.specs.Reset
 use Rattle.card.specs.Reset.{resetCard}
 use Rattle.laws.specs.Calls.{Call, after, number, Field, among, Same, packetTouches, readTouches, writeTouches, touches, LatchesTime, LatchesEvent}
 use Rattle.laws.proofs.Refused.{accepted-lawful}
-use Rattle.laws.proofs.Frame.{frame, Without, read-without, write-without}
+use Rattle.laws.proofs.Frame.{frame, Without, read-without, edge-without, write-without}
 
 -- WHICH CALLS TOUCH THEM
 
@@ -52,7 +55,7 @@ read-no-time reg e = simp e
 
 write-no-time : (reg v : ℕ) (c : Card) → eqb reg 0 ≡ false → Without Field.timeLatch (writeTouches reg v c)
 unfolding among
-write-no-time reg v c z = write-without Field.timeLatch refl refl (λ p. packet-no-latch p .0) refl refl refl refl refl refl reg v c (λ e. clash (sym e ∙ z))
+write-no-time reg v c z = write-without Field.timeLatch refl refl (λ p. packet-no-latch p .0) refl refl refl refl refl refl refl refl reg v c (λ e. clash (sym e ∙ z))
 
 read-no-event : (reg : ℕ) → Without Field.eventLatch (readTouches reg)
 unfolding among
@@ -60,7 +63,7 @@ read-no-event = read-without Field.eventLatch refl
 
 write-no-event : (reg v : ℕ) (c : Card) → Without Field.eventLatch (writeTouches reg v c)
 unfolding among
-write-no-event reg v c = write-without Field.eventLatch refl refl (λ p. packet-no-latch p .1) refl refl refl refl refl refl reg v c (λ e. refl)
+write-no-event reg v c = write-without Field.eventLatch refl refl (λ p. packet-no-latch p .1) refl refl refl refl refl refl refl refl reg v c (λ e. refl)
 
 pub time-latching : (k : Call) (c : Card) → (after k c .«time_latch» ≡ c .«time_latch») ⊎ LatchesTime k
 unfolding touches among
@@ -76,7 +79,7 @@ time-latching (Call.write reg v) c = go (eqb reg 0) refl
     go true e = inr (subst (λ (r : ℕ). LatchesTime (Call.write r v)) (sym (eqb-true reg 0 e)) (LatchesTime.writes v))
     go false e = inl (time-same (Call.write reg v) c (write-no-time reg v c e))
 time-latching (Call.block row) c = inl (time-same (Call.block row) c refl)
-time-latching (Call.edge falling) c = inl (time-same (Call.edge falling) c refl)
+time-latching (Call.edge falling) c = inl (time-same (Call.edge falling) c (edge-without Field.timeLatch refl refl refl falling (c .event)))
 time-latching Call.line c = inl (time-same Call.line c refl)
 time-latching (Call.setStrobe s) c = inl (time-same (Call.setStrobe s) c refl)
 time-latching (Call.setPeriodic d) c = inl (time-same (Call.setPeriodic d) c refl)
@@ -116,8 +119,8 @@ module _ (c : Card) (l : lawful c ≡ true) where
   unfolding writeRegister writeRefusal written
   write-answers v = simp l
 
-  edge-answers : (falling t : Bool) → captures (c .event .control) falling ≡ t
-      → Registers.edge c falling ≡ answer (pick t (captured c) c) 0
+  edge-answers : (falling t : Bool) → matching (c .event .control) falling ≡ t
+      → Registers.edge c falling ≡ answer (pick t (matched c) c) 0
   unfolding Registers.edge granted
   edge-answers falling t e = simp (l, e)
 
@@ -134,12 +137,20 @@ pub time-written : (v : ℕ) (c : Card) → number (Call.write 0 v) c ≡ 0 → 
 unfolding after
 time-written v c e = ap (λ (a : Answer). a .card .«time_latch») (write-answers c (accepted-lawful (Call.write 0 v) c e) v)
 
--- an accepted edge: the words of the card's time if it is captured; any other edge leaves the card as it is
-pub edge-captured : (falling : Bool) (c : Card) → number (Call.edge falling) c ≡ 0 → captures (c .event .control) falling ≡ true → after (Call.edge falling) c .event .latch ≡ wordsNow c
-unfolding after
-edge-captured falling c e t = ap (λ (a : Answer). a .card .event .latch) (edge-answers c (accepted-lawful (Call.edge falling) c e) falling true t)
+-- an edge is refused by 18 alone
+pub edge-accepted : (falling : Bool) (c : Card) → lawful c ≡ true → number (Call.edge falling) c ≡ 0
+unfolding number
+edge-accepted falling c l = ap (λ (a : Answer). a .number) (edge-answers c l falling (matching (c .event .control) falling) refl)
 
-pub edge-passed : (falling : Bool) (c : Card) → number (Call.edge falling) c ≡ 0 → captures (c .event .control) falling ≡ false → after (Call.edge falling) c ≡ c
+-- an accepted edge: what a matching one leaves; on an open latch the words of the card's time; one that does not match leaves the card as it is
+pub edge-matched : (falling : Bool) (c : Card) → number (Call.edge falling) c ≡ 0 → matching (c .event .control) falling ≡ true → after (Call.edge falling) c ≡ matched c
+unfolding after
+edge-matched falling c e t = ap (λ (a : Answer). a .card) (edge-answers c (accepted-lawful (Call.edge falling) c e) falling true t)
+
+pub edge-captured : (falling : Bool) (c : Card) → number (Call.edge falling) c ≡ 0 → matching (c .event .control) falling ≡ true → c .event .closed ≡ false → after (Call.edge falling) c .event .latch ≡ wordsNow c
+edge-captured falling c e t o = ap (λ (d : Card). d .event .latch) (edge-matched falling c e t) ∙ ap (λ (x : Event). x .latch) (edge-captures (c .event) (wordsNow c) o)
+
+pub edge-passed : (falling : Bool) (c : Card) → number (Call.edge falling) c ≡ 0 → matching (c .event .control) falling ≡ false → after (Call.edge falling) c ≡ c
 unfolding after
 edge-passed falling c e t = ap (λ (a : Answer). a .card) (edge-answers c (accepted-lawful (Call.edge falling) c e) falling false t)
 

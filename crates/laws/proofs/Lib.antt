@@ -1,4 +1,4 @@
--- Laws of all calls together, blocks, IRIG B frames, the jam, the continuation of waits, the ends of years, and the page's examples.
+-- Laws of all calls together, blocks, IRIG B frames, the jam, the first trip, the continuation of waits, the ends of years, and the page's examples.
 pub mod Blocks
 pub mod Demand
 pub mod Examples
@@ -14,5 +14,6 @@ pub mod Pending
 pub mod Readings
 pub mod Refused
 pub mod Saves
+pub mod Trips
 pub mod Waits
 pub mod Years

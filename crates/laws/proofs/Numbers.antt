@@ -65,7 +65,8 @@ module _ (c : Card) (reg v : ℕ) where
       by Gives (eqb reg 0) (at-other 0 refl)
       (λ e0. by Gives (eqb reg 11) (at-other 11 refl)
       (λ e11. by Gives (eqb reg 12) at-ack
-      (λ e12. by Gives (eqb reg 13) (λ e. no-packet e12) (λ e. no-packet e12))))
+      (λ e12. by Gives (eqb reg 13) (λ e. no-packet e12)
+      (λ e13. by Gives (eqb reg 18) (λ e. no-packet e12) (λ e. no-packet e12)))))
     where
       Gives : Answer → Type 0
       Gives a = a .number ≡ given packet

@@ -28,7 +28,7 @@ use Rattle.card.specs.declared.card.Answer.{Answer}
 use Rattle.card.specs.declared.blocks.BlockAnswer.{BlockAnswer}
 use Rattle.card.specs.declared.registers.Value.{Value}
 use Rattle.card.specs.declared.waiting.WaitedCard.{WaitedCard}
-use Rattle.parts.specs.Events.{withControl}
+use Rattle.parts.specs.Events.{controlWritten, opened, matching}
 use Rattle.parts.specs.Interrupts.{withMask, withPending, withLevel, withVector, interruptsWritten, lineUp}
 use Rattle.card.specs.Blocks.{writeBlock, free}
 use Rattle.card.specs.Cards.{answer, granted, withClock, withTimeLatch, withEvent, withDone, withInterrupts, withJam, withQueue, withSettings}
@@ -38,7 +38,7 @@ use Rattle.parts.specs.Queues.{emptyQueue, queued, enqueued}
 use Rattle.parts.specs.Settings.{applied, jamFits}
 use Rattle.card.specs.Packets.{ackNumber, settingsTaken, taken, doneCleared, acknowledged}
 use Rattle.card.specs.Registers
-use Rattle.card.specs.Registers.{lastRegister, value, wordsNow, readRefusal, readRegister, shown, writeRefusal, writeRegister, written, captures, captured, lineRefusal, interruptLine}
+use Rattle.card.specs.Registers.{lastRegister, value, wordsNow, readRefusal, readRegister, shown, writeRefusal, writeRegister, written, matched, lineRefusal, interruptLine}
 use Rattle.card.specs.Setting
 use Rattle.card.specs.Waiting
 use Rattle.card.specs.Waiting.{waitRefusal, cardAfter}
@@ -61,7 +61,7 @@ pub data Effect (c : Card) : Call → Card → Type 0 where
   reads-time : Effect c (Call.read 0) (withTimeLatch c (wordsNow c))
   reads-other : (reg : ℕ) → eqb reg 0 ≡ false → Effect c (Call.read reg) c
   requests-time : (v : ℕ) → Effect c (Call.write 0 v) (withTimeLatch c (wordsNow c))
-  writes-control : (v : ℕ) → Effect c (Call.write 11 v) (withEvent c (withControl (c .event) (v % 4)))
+  writes-control : (v : ℕ) → Effect c (Call.write 11 v) (withEvent c (controlWritten (c .event) v))
   clears-done : (v : ℕ) → bit 128 v ≡ false → Effect c (Call.write 12 v) (doneCleared v c)
   takes-packet : (v : ℕ) → bit 128 v ≡ true → ackNumber c ≡ 0
       → Effect c (Call.write 12 v) (withDone (withSettings (withQueue c emptyQueue) (applied (packetIn (queued (c .queue))) (c .settings))) true)
@@ -71,8 +71,9 @@ pub data Effect (c : Card) : Call → Card → Type 0 where
   clears-pending : (v : ℕ) → Effect c (Call.write 15 v) (withInterrupts c (withPending (c .interrupts) (cleared v (c .interrupts .pending))))
   writes-level : (v : ℕ) → Effect c (Call.write 16 v) (withInterrupts c (withLevel (c .interrupts) (v % 8)))
   writes-vector : (v : ℕ) → Effect c (Call.write 17 v) (withInterrupts c (withVector (c .interrupts) (v % 256)))
-  captures-edge : (falling : Bool) → captures (c .event .control) falling ≡ true → Effect c (Call.edge falling) (captured c)
-  passes-edge : (falling : Bool) → captures (c .event .control) falling ≡ false → Effect c (Call.edge falling) c
+  opens-latch : (v : ℕ) → Effect c (Call.write 18 v) (withEvent c (opened (c .event)))
+  matches-edge : (falling : Bool) → matching (c .event .control) falling ≡ true → Effect c (Call.edge falling) (matched c)
+  passes-edge : (falling : Bool) → matching (c .event .control) falling ≡ false → Effect c (Call.edge falling) c
   tells-line : Effect c Call.line c
   sets-strobe : (s : StrobeAt) → strobeFits s ≡ true → Effect c (Call.setStrobe s) (withClock c (withStrobe (c .clock) (strobeKept s)))
   sets-periodic : (d : Dividers) → dividersFit d ≡ true → Effect c (Call.setPeriodic d) (withClock c (withPeriodic (c .clock) (periodicKept d)))
@@ -190,12 +191,13 @@ module _ (c : Card) (reg v : ℕ) where
       (λ e0. by Writes (eqb reg 11) (λ e. at 11 e _ (accepted l (writes-control v)))
       (λ e11. by Writes (eqb reg 12) (λ e. at 12 e _ (acknowledges c v l))
       (λ e12. by Writes (eqb reg 13) (λ e. at 13 e _ (accepted l (joins-queue v (room e))))
-      (λ e13. by (λ (i : Interrupts). Writes (answer (withInterrupts c i) 0)) (eqb reg 14) (λ e. at 14 e _ (accepted l (writes-mask v)))
+      (λ e13. by Writes (eqb reg 18) (λ e. at 18 e _ (accepted l (opens-latch v)))
+      (λ e18. by (λ (i : Interrupts). Writes (answer (withInterrupts c i) 0)) (eqb reg 14) (λ e. at 14 e _ (accepted l (writes-mask v)))
       (λ e14. by (λ (i : Interrupts). Writes (answer (withInterrupts c i) 0)) (eqb reg 15) (λ e. at 15 e _ (accepted l (clears-pending v)))
       (λ e15. by (λ (i : Interrupts). Writes (answer (withInterrupts c i) 0)) (eqb reg 16) (λ e. at 16 e _ (accepted l (writes-level v)))
       (λ e16. by (λ (i : Interrupts). Writes (answer (withInterrupts c i) 0)) (eqb reg 17) (λ e. at 17 e _ (accepted l (writes-vector v)))
       (λ e17. absurd (eqb-false reg 17 e17 (last (eqb-false reg 0 e0)
-      (eqb-false reg 11 e11) (eqb-false reg 12 e12) (eqb-false reg 13 e13) (eqb-false reg 14 e14) (eqb-false reg 15 e15) (eqb-false reg 16 e16)))))))))))
+      (eqb-false reg 11 e11) (eqb-false reg 12 e12) (eqb-false reg 13 e13) (eqb-false reg 14 e14) (eqb-false reg 15 e15) (eqb-false reg 16 e16) (eqb-false reg 18 e18))))))))))))
     where
       room : eqb reg 13 ≡ true → c .queue .fill < 64
       room e = lt-of-le-ne (queue-within c l) (eqb-false (c .queue .fill) 64 (sym (ap (λ (t : Bool). t && eqb (c .queue .fill) 64) e) ∙ f))
@@ -209,9 +211,10 @@ module _ (c : Card) (reg v : ℕ) where
       next : (r : ℕ) → r ≤ reg → (reg ≡ r → ⊥) → suc r ≤ reg
       next r h e = lt-of-le-ne h (λ q. e (sym q))
 
-      last : (reg ≡ 0 → ⊥) → (reg ≡ 11 → ⊥) → (reg ≡ 12 → ⊥) → (reg ≡ 13 → ⊥) → (reg ≡ 14 → ⊥) → (reg ≡ 15 → ⊥) → (reg ≡ 16 → ⊥) → reg ≡ 17
-      last a b d e g h i =
-          ⊎-elim (λ (u : 10 < reg). le-antisymm (ltb-false 17 reg m) (next 16 (next 15 (next 14 (next 13 (next 12 (next 11 u b) d) e) g) h) i))
+      last : (reg ≡ 0 → ⊥) → (reg ≡ 11 → ⊥) → (reg ≡ 12 → ⊥) → (reg ≡ 13 → ⊥) → (reg ≡ 14 → ⊥) → (reg ≡ 15 → ⊥) → (reg ≡ 16 → ⊥) → (reg ≡ 18 → ⊥) → reg ≡ 17
+      last a b d e g h i j =
+          let w : reg < 18 = lt-of-le-ne (ltb-false 18 reg m) j in
+          ⊎-elim (λ (u : 10 < reg). le-antisymm (omega arith) (next 16 (next 15 (next 14 (next 13 (next 12 (next 11 u b) d) e) g) h) i))
           (λ (u : reg ≤ 10). absurd (above a u)) (lt-or-le 10 reg)
 
   abbrev writing : ℕ → Answer
@@ -306,7 +309,7 @@ outcome (Call.write reg v) c = write-by c reg v (lawful c) refl
 outcome (Call.block row) c = block-by c row (lawful c) refl
 outcome (Call.edge falling) c =
     only-18 _ c _
-    (λ l. by (Effect c (Call.edge falling)) (captures (c .event .control) falling) (captures-edge falling) (passes-edge falling))
+    (λ l. by (Effect c (Call.edge falling)) (matching (c .event .control) falling) (matches-edge falling) (passes-edge falling))
     (lawful c) refl
 outcome Call.line c = line-by c (lawful c) (lineUp (c .interrupts)) refl
 outcome (Call.setStrobe s) c = one-line _ c _ 13 (strobeFits s) refl refl (sets-strobe s) (lawful c) refl

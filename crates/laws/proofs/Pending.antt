@@ -11,6 +11,7 @@ use lib.ListN.{length}
 use Rattle.wire.proofs.digits.Laws.{and-left, and-both}
 use Rattle.clock.specs.declared.waiting.Fell.{Fell}
 use Rattle.clock.specs.Waiting.{listed, passed, fell}
+use Rattle.parts.specs.Events.{matching}
 use Rattle.parts.specs.Interrupts.{sourceOf, lineUp}
 use Rattle.parts.specs.Pending.{bit, Shared}
 use Rattle.parts.proofs.interrupts.Laws.{ranges}
@@ -18,7 +19,6 @@ use Rattle.parts.proofs.interrupts.Bits.{event-raises, sources-raise, clears, l
 use Rattle.card.specs.declared.card.Card.{Card}
 use Rattle.card.specs.declared.waiting.WaitedCard.{WaitedCard}
 use Rattle.card.specs.Lawful.{lawful}
-use Rattle.card.specs.Registers.{captures}
 use Rattle.card.specs.Registers
 use Rattle.card.specs.Waiting.{wait}
 use Rattle.card.proofs.lawful.Laws.{parts}
@@ -36,8 +36,8 @@ pending-small c l = ranges (c .interrupts) (parts c l .interrupts) .pending
 
 -- ---- the three calls that change them
 
--- a captured edge raises bit 0
-pub edge-raises : (c : Card) (falling : Bool) (i : ℕ) → i < 5 → number (Call.edge falling) c ≡ 0 → captures (c .event .control) falling ≡ true
+-- a matching edge raises bit 0, captured or missed
+pub edge-raises : (c : Card) (falling : Bool) (i : ℕ) → i < 5 → number (Call.edge falling) c ≡ 0 → matching (c .event .control) falling ≡ true
     → pendingBit i (after (Call.edge falling) c) ≡ (pendingBit i c || eqb i 0)
 unfolding after
 edge-raises c falling i l e t =
@@ -79,7 +79,8 @@ four c d k l (Effect.writes-mask v) h = h
 four c d k l (Effect.clears-pending v) h = and-left (pendingBit 4 c) (not (bit 16 v)) (sym (clears 4 v (c .interrupts .pending) (lit< tt) (pending-small c l)) ∙ h)
 four c d k l (Effect.writes-level v) h = h
 four c d k l (Effect.writes-vector v) h = h
-four c d k l (Effect.captures-edge falling e) h = sym (event-raises 4 (c .interrupts .pending) (lit< tt) (pending-small c l) ∙ or-false (pendingBit 4 c)) ∙ h
+four c d k l (Effect.opens-latch v) h = h
+four c d k l (Effect.matches-edge falling e) h = sym (event-raises 4 (c .interrupts .pending) (lit< tt) (pending-small c l) ∙ or-false (pendingBit 4 c)) ∙ h
 four c d k l (Effect.passes-edge falling e) h = h
 four c d k l Effect.tells-line h = h
 four c d k l (Effect.sets-strobe s e) h = h

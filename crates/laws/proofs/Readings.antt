@@ -1,5 +1,5 @@
 -- What registers read as afterwards: CONTROL, MASK, LEVEL and VECTOR read back what was written, but for bits not named; TIME0 to TIME4 after a time request and
--- EVENT0 to EVENT4 after a captured edge read as the card's time; after a reset every register reads 0. And what ACK does with its bits. Assumes nothing.
+-- EVENT0 to EVENT4 after a captured edge read as the card's time, and register 18 as the count of missed edges; after a reset every register reads 0. And what ACK does with its bits. Assumes nothing.
 use Prim.Native.Nat.{ℕ, zero, suc, _-_, _%_}
 use mathlib.Core.Path.{_≡_, refl, sym, ap, _∙_}
 use mathlib.Core.Bool.{Bool, true, false}
@@ -10,7 +10,7 @@ use Rattle.wire.specs.Digits.{pick}
 use Rattle.wire.specs.Packets.{packetIn}
 use Rattle.wire.specs.Words.{zeroWords, timeRead, readWords}
 use Rattle.wire.proofs.words.Laws.{five-of, words-five}
-use Rattle.parts.specs.Events.{withControl}
+use Rattle.parts.specs.Events.{controlWritten, opened, matching}
 use Rattle.parts.specs.Interrupts.{withMask, withLevel, withVector}
 use Rattle.parts.specs.Pending.{bit}
 use Rattle.parts.specs.Queues.{emptyQueue, queued}
@@ -21,7 +21,7 @@ use Rattle.card.specs.declared.card.Answer.{Answer}
 use Rattle.card.specs.Cards.{answer, withTimeLatch, withEvent, withInterrupts, withDone}
 use Rattle.card.specs.Lawful.{lawful}
 use Rattle.card.specs.Packets.{ackNumber, settingsTaken, acknowledged}
-use Rattle.card.specs.Registers.{value, wordsNow, readRefusal, readRegister, shown, writeRefusal, writeRegister, written, captures}
+use Rattle.card.specs.Registers.{value, wordsNow, readRefusal, readRegister, shown, writeRefusal, writeRegister, written}
 use Rattle.card.specs.Reset.{resetCard}
 use Rattle.card.proofs.registers.Laws.{time-lawful, words-read}
 use Rattle.laws.specs.Calls.{Call, after, number}
@@ -48,9 +48,13 @@ module _ (c : Card) (v : ℕ) (l : lawful c ≡ true) where
       let m : lawful d ≡ true = sym (ap lawful k) ∙ keeps (Call.write reg v) c l in
       rw k (reads d reg m e z ∙ ap (value d 0) s)
 
-  control-written : writeRegister c 11 v ≡ answer (withEvent c (withControl (c .event) (v % 4))) 0
+  pub control-written : writeRegister c 11 v ≡ answer (withEvent c (controlWritten (c .event) v)) 0
   unfolding writeRegister writeRefusal written
   control-written = simp l
+
+  pub count-written : writeRegister c 18 v ≡ answer (withEvent c (opened (c .event))) 0
+  unfolding writeRegister writeRefusal written
+  count-written = simp l
 
   mask-written : writeRegister c 14 v ≡ answer (withInterrupts c (withMask (c .interrupts) (v % 32))) 0
   unfolding writeRegister writeRefusal written
@@ -66,7 +70,7 @@ module _ (c : Card) (v : ℕ) (l : lawful c ≡ true) where
 
   kept : {reg m : ℕ} → Keeps reg m → readRegister (after (Call.write reg v) c) reg ≡ value (after (Call.write reg v) c) 0 (v % m)
   unfolding readRefusal shown
-  kept Keeps.control = back _ 11 (v % 4) control-written refl refl refl
+  kept Keeps.control = back _ 11 (v % 8) control-written refl refl refl
   kept Keeps.mask = back _ 14 (v % 32) mask-written refl refl refl
   kept Keeps.level = back _ 16 (v % 8) level-written refl refl refl
   kept Keeps.vector = back _ 17 (v % 256) vector-written refl refl refl
@@ -76,6 +80,13 @@ pub register-back : (c : Card) (reg m v : ℕ) → Keeps reg m → number (Call.
     → readRegister (after (Call.write reg v) c) reg ≡ value (after (Call.write reg v) c) 0 (v % m)
 register-back c reg m v k e = kept c v (accepted-lawful (Call.write reg v) c e) k
 
+-- ---- the count of missed edges
+
+-- register 18 reads as it, of every lawful card, and reading it changes nothing
+pub count-reads : (c : Card) → lawful c ≡ true → readRegister c 18 ≡ value c 0 (c .event .missed)
+unfolding readRefusal shown
+count-reads c l = reads c 18 l refl refl
+
 -- ---- latched times
 
 -- five registers of a latch read as its words
@@ -84,12 +95,12 @@ module _ (d : Card) (l : lawful d ≡ true) where
   unfolding readRegister readRefusal shown
   time-five = simp l
 
-  event-five : fiveRead d 6 ≡ getD (d .event .latch) 0 0 ∷ getD (d .event .latch) 1 0 ∷ getD (d .event .latch) 2 0 ∷ getD (d .event .latch) 3 0 ∷ getD (d .event .latch) 4 0 ∷ []
+  pub event-five : fiveRead d 6 ≡ getD (d .event .latch) 0 0 ∷ getD (d .event .latch) 1 0 ∷ getD (d .event .latch) 2 0 ∷ getD (d .event .latch) 3 0 ∷ getD (d .event .latch) 4 0 ∷ []
   unfolding readRegister readRefusal shown
   event-five = simp l
 
 -- the words of the card's time, wherever they are kept, are read as that time
-time-in : (c : Card) (ws : List ℕ) → lawful c ≡ true → ws ≡ wordsNow c
+pub time-in : (c : Card) (ws : List ℕ) → lawful c ≡ true → ws ≡ wordsNow c
     → readWords (getD ws 0 0 ∷ getD ws 1 0 ∷ getD ws 2 0 ∷ getD ws 3 0 ∷ getD ws 4 0 ∷ []) ≡ timeRead 0 (c .clock .time .day) (c .clock .time .tick .ticks)
 time-in c ws l e =
     ap readWords (sym (five-of ws (ap length e ∙ words-five (c .clock .time .day) (c .clock .time .tick .ticks))) ∙ e) ∙ words-read (c .clock .time) (time-lawful c l)
@@ -102,12 +113,12 @@ time-reads c e =
     ap readWords (time-five d (keeps (Call.read 0) c l)) ∙ time-in c (d .«time_latch») l (time-request c e)
 
 -- EVENT0 to EVENT4 after a captured edge
-pub event-reads : (c : Card) (falling : Bool) → number (Call.edge falling) c ≡ 0 → captures (c .event .control) falling ≡ true
+pub event-reads : (c : Card) (falling : Bool) → number (Call.edge falling) c ≡ 0 → matching (c .event .control) falling ≡ true → c .event .closed ≡ false
     → readWords (fiveRead (after (Call.edge falling) c) 6) ≡ timeRead 0 (c .clock .time .day) (c .clock .time .tick .ticks)
-event-reads c falling e t =
+event-reads c falling e t o =
     let l = accepted-lawful (Call.edge falling) c e in
     let d : Card = after (Call.edge falling) c in
-    ap readWords (event-five d (keeps (Call.edge falling) c l)) ∙ time-in c (d .event .latch) l (edge-captured falling c e t)
+    ap readWords (event-five d (keeps (Call.edge falling) c l)) ∙ time-in c (d .event .latch) l (edge-captured falling c e t o)
 
 -- ---- after a reset
 
@@ -136,7 +147,8 @@ module _ (c : Card) (reg : ℕ) where
       (λ e. by Zero (eqb reg 12) (λ e. refl)
       (λ e. by Zero (eqb reg 14) (λ e. refl)
       (λ e. by Zero (eqb reg 15) (λ e. refl)
-      (λ e. by Zero (eqb reg 16) (λ e. refl) (λ e. refl))))))))
+      (λ e. by Zero (eqb reg 16) (λ e. refl)
+      (λ e. by Zero (eqb reg 17) (λ e. refl) (λ e. refl)))))))))
 
   read-zero : readRegister d reg .value ≡ 0
   unfolding readRegister

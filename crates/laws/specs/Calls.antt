@@ -12,6 +12,8 @@ use Rattle.wire.specs.declared.packets.Packet.{Packet}
 use Rattle.wire.specs.declared.packets.Packet.the-variants as Packet
 use Rattle.clock.specs.declared.setting.StrobeAt.{StrobeAt}
 use Rattle.clock.specs.declared.setting.Dividers.{Dividers}
+use Rattle.parts.specs.declared.event.Event.{Event}
+use Rattle.parts.specs.Events.{keepsFirst, matching}
 use Rattle.parts.specs.Pending.{bit}
 use Rattle.parts.specs.Queues.{queued}
 use Rattle.card.specs.declared.card.Card.{Card}
@@ -136,7 +138,7 @@ left (Call.switchJam on) c = []
 -- FIELDS
 
 pub data Field : Type 0 where
-  queue time strobe periodic timeLatch control eventLatch mode format modulation clockSource generator offset jam mask pending level vector done : Field
+  queue time strobe periodic timeLatch control closed missed eventLatch mode format modulation clockSource generator offset jam mask pending level vector done : Field
 
 -- fields are told apart by their place in the card
 abbrev place : Field → ℕ
@@ -146,19 +148,21 @@ place Field.strobe = 2
 place Field.periodic = 3
 place Field.timeLatch = 4
 place Field.control = 5
-place Field.eventLatch = 6
-place Field.mode = 7
-place Field.format = 8
-place Field.modulation = 9
-place Field.clockSource = 10
-place Field.generator = 11
-place Field.offset = 12
-place Field.jam = 13
-place Field.mask = 14
-place Field.pending = 15
-place Field.level = 16
-place Field.vector = 17
-place Field.done = 18
+place Field.closed = 6
+place Field.missed = 7
+place Field.eventLatch = 8
+place Field.mode = 9
+place Field.format = 10
+place Field.modulation = 11
+place Field.clockSource = 12
+place Field.generator = 13
+place Field.offset = 14
+place Field.jam = 15
+place Field.mask = 16
+place Field.pending = 17
+place Field.level = 18
+place Field.vector = 19
+place Field.done = 20
 
 unfoldable pub among : List Field → Field → Bool
 among [] f = false
@@ -176,6 +180,8 @@ Same fs c d = d ≡ record {
   «time_latch» = pick (among fs Field.timeLatch) (d .«time_latch») (c .«time_latch»);
   event = record {
     control = pick (among fs Field.control) (d .event .control) (c .event .control);
+    closed = pick (among fs Field.closed) (d .event .closed) (c .event .closed);
+    missed = pick (among fs Field.missed) (d .event .missed) (c .event .missed);
     latch = pick (among fs Field.eventLatch) (d .event .latch) (c .event .latch);
   };
   settings = record {
@@ -213,6 +219,17 @@ ackTouches v c =
     (pick (bit 1 v) (Field.done ∷ [])
     [])
 
+-- CONTROL: itself, and with bit 2 clear whether the latch is closed
+abbrev pub controlTouches : ℕ → List Field
+controlTouches v = Field.control ∷ pick (keepsFirst v) [] (Field.closed ∷ [])
+
+-- an edge, if it matches: the pending bits, and of a closed latch the count, of an open one the latch, and with bit 2 set whether it is closed
+abbrev pub matchingTouches : Event → List Field
+matchingTouches e = Field.pending ∷ pick (e .closed) (Field.missed ∷ []) (Field.eventLatch ∷ pick (keepsFirst (e .control)) (Field.closed ∷ []) [])
+
+abbrev pub edgeTouches : Bool → Event → List Field
+edgeTouches falling e = pick (matching (e .control) falling) (matchingTouches e) []
+
 -- reading and writing a register
 unfoldable pub readTouches : ℕ → List Field
 readTouches reg = pick (eqb reg 0) (Field.timeLatch ∷ []) []
@@ -220,14 +237,15 @@ readTouches reg = pick (eqb reg 0) (Field.timeLatch ∷ []) []
 unfoldable pub writeTouches : ℕ → ℕ → Card → List Field
 writeTouches reg v c =
     pick (eqb reg 0) (Field.timeLatch ∷ [])
-    (pick (eqb reg 11) (Field.control ∷ [])
+    (pick (eqb reg 11) (controlTouches v)
     (pick (eqb reg 12) (ackTouches v c)
     (pick (eqb reg 13) (Field.queue ∷ [])
     (pick (eqb reg 14) (Field.mask ∷ [])
     (pick (eqb reg 15) (Field.pending ∷ [])
     (pick (eqb reg 16) (Field.level ∷ [])
     (pick (eqb reg 17) (Field.vector ∷ [])
-    [])))))))
+    (pick (eqb reg 18) (Field.closed ∷ Field.missed ∷ [])
+    []))))))))
 
 -- a call on a card
 unfoldable pub touches : Call → Card → List Field
@@ -235,13 +253,13 @@ touches (Call.setTime year day hour minute second) c = Field.time ∷ []
 touches (Call.read reg) c = readTouches reg
 touches (Call.write reg v) c = writeTouches reg v c
 touches (Call.block row) c = Field.queue ∷ []
-touches (Call.edge falling) c = Field.eventLatch ∷ Field.pending ∷ []
+touches (Call.edge falling) c = edgeTouches falling (c .event)
 touches Call.line c = []
 touches (Call.setStrobe s) c = Field.strobe ∷ []
 touches (Call.setPeriodic d) c = Field.periodic ∷ []
 touches (Call.wait n row) c = Field.time ∷ Field.pending ∷ Field.periodic ∷ []
 touches Call.reset c =
-    Field.clockSource ∷ Field.offset ∷ Field.jam ∷ Field.timeLatch ∷ Field.eventLatch ∷ Field.control ∷ Field.mask ∷ Field.pending ∷ Field.level ∷ Field.vector ∷ Field.done ∷ Field.queue ∷ Field.strobe ∷ Field.periodic ∷ []
+    Field.clockSource ∷ Field.offset ∷ Field.jam ∷ Field.timeLatch ∷ Field.control ∷ Field.closed ∷ Field.missed ∷ Field.eventLatch ∷ Field.mask ∷ Field.pending ∷ Field.level ∷ Field.vector ∷ Field.done ∷ Field.queue ∷ Field.strobe ∷ Field.periodic ∷ []
 touches (Call.save row) c = []
 touches (Call.load bytes) c = Field.mode ∷ Field.format ∷ Field.modulation ∷ Field.clockSource ∷ Field.generator ∷ Field.offset ∷ []
 touches (Call.writeFrame row) c = []

@@ -4,4 +4,5 @@ pub mod Each
 pub mod Examples
 pub mod Readings
 pub mod Refusals
+pub mod Trips
 pub mod Years

@@ -6,7 +6,7 @@ use Rattle.card.specs.Registers.{readRegister}
 
 -- the registers that keep what is written to them, and how many values each holds
 pub data Keeps : ℕ → ℕ → Type 0 where
-  control : Keeps 11 4
+  control : Keeps 11 8
   mask : Keeps 14 32
   level : Keeps 16 8
   vector : Keeps 17 256

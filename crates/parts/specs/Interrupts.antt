@@ -33,7 +33,7 @@ interruptsWritten i reg v =
     (pick (eqb reg 17) (withVector i (v % 256))
     i)))
 
--- a captured edge raises pending bit 0
+-- a matching edge raises pending bit 0
 abbrev pub eventRaised : Interrupts → Interrupts
 eventRaised i = withPending i (raised 1 true (i .pending))
 

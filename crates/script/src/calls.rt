@@ -109,6 +109,19 @@ fn told_block(card: Card, text: &[u8]) -> Card {
     c
 }
 
+// So many edges of a kind, at most 70,000 on a line, so that it ends soon; the number of the last is told.
+fn told_edges(card: Card, times: u32, falling: bool) -> Card {
+    let mut c = card;
+    let mut number: u8 = 0;
+    for i in 0..times {
+        let a = input_edge(c, falling);
+        number = a.number;
+        c = a.card;
+    }
+    put_byte(number);
+    c
+}
+
 fn told_line(card: Card) -> Card {
     let l = interrupt_line(card);
     put_byte(l.number);
@@ -236,6 +249,7 @@ fn called_card(call: u8, card: Card, text: &[u8]) -> Card {
         b'w' => told(write_register(card, byte_at(text, 1), short_at(text, 2))),
         b'b' => told_block(card, text),
         b'e' => told(input_edge(card, byte_at(text, 1) == 1)),
+        b'k' => told_edges(card, long_at(text, 1) % 70_001, byte_at(text, 2) == 1),
         b'l' => told_line(card),
         b'j' => told(switch_jam(card, byte_at(text, 1) == 1)),
         b'x' => told(reset(card)),

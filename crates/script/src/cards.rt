@@ -140,11 +140,24 @@ fn with_interrupts(card: Card, text: &[u8]) -> Card {
     c
 }
 
+// CONTROL and the words of the event latch.
 fn with_event(card: Card, text: &[u8]) -> Card {
     let event = Event {
         control: byte_at(text, 1),
+        closed: card.event.closed,
+        missed: card.event.missed,
         latch: five_at(text),
     };
+    let mut c = card;
+    c.event = event;
+    c
+}
+
+// Whether the event latch is closed, and how many edges it missed.
+fn with_missed(card: Card, text: &[u8]) -> Card {
+    let mut event = card.event;
+    event.closed = byte_at(text, 1) == 1;
+    event.missed = short_at(text, 2);
     let mut c = card;
     c.event = event;
     c
@@ -213,6 +226,7 @@ pub(crate) fn changed(call: u8, card: Card, text: &[u8]) -> Card {
         b'S' => with_sources(card, text),
         b'I' => with_interrupts(card, text),
         b'E' => with_event(card, text),
+        b'C' => with_missed(card, text),
         b'L' => with_latch(card, text),
         b'M' => with_settings(card, text),
         b'O' => with_jam(card, text),

@@ -149,6 +149,8 @@ fn put_clock(clock: Clock) {
 
 fn put_event(e: Event) {
     put_byte(e.control);
+    put_bool(e.closed);
+    put_short(e.missed);
     let latch = e.latch;
     put_words(latch);
 }

@@ -1,11 +1,10 @@
 -- The parts of a card in the order in which the code asks them, and what a lawful card tells of each. Assumes nothing.
 use mathlib.Core.Path.{_≡_, refl, ap, _∙_}
 use mathlib.Core.Bool.{Bool, true, false, _&&_}
-use lib.Dec.{ltb}
 use Rattle.wire.proofs.digits.Laws.{and-both, and-true}
 use Rattle.wire.proofs.packets.Laws.{and-false}
 use Rattle.clock.specs.Clocks.{clockLawful}
-use Rattle.parts.specs.Events.{latchLawful, eventLawful}
+use Rattle.parts.specs.Events.{latchLawful, controlLawful, eventLawful}
 use Rattle.parts.specs.Interrupts.{interruptsLawful}
 use Rattle.parts.specs.Queues.{queueLawful}
 use Rattle.parts.specs.Settings.{settingsLawful, jamFits}
@@ -35,14 +34,14 @@ reordered true true l t false j q = none l t
 pub rest-parts : (c : Card) →
     restLawful c
     ≡ (interruptsLawful (c .interrupts)
-    && (ltb (c .event .control) 4
+    && (controlLawful (c .event .control) (c .event .closed)
     && (settingsLawful (c .settings)
     && (jamFits (c .jam) (c .settings)
     && ((latchLawful (c .«time_latch») && latchLawful (c .event .latch))
     && queueLawful (c .queue))))))
 unfolding restLawful
 rest-parts c =
-    rw (event-is (c .event)) (reordered (interruptsLawful (c .interrupts)) (ltb (c .event .control) 4) (latchLawful (c .event .latch)) (latchLawful (c .«time_latch»)) (settingsLawful (c .settings)) (jamFits (c .jam) (c .settings)) (queueLawful (c .queue)))
+    rw (event-is (c .event)) (reordered (interruptsLawful (c .interrupts)) (controlLawful (c .event .control) (c .event .closed)) (latchLawful (c .event .latch)) (latchLawful (c .«time_latch»)) (settingsLawful (c .settings)) (jamFits (c .jam) (c .settings)) (queueLawful (c .queue)))
 
 -- of a card whose clock is lawful, the other parts decide
 pub clock-lawful : (c : Card) → clockLawful (c .clock) ≡ true → lawful c ≡ restLawful c

@@ -14,15 +14,16 @@ use Rattle.clock.specs.declared.time.Time.{Time}
 use Rattle.clock.specs.Time.{timeLawful}
 use Rattle.clock.proofs.time.Laws.{in-range, days-in-year}
 use Rattle.clock.proofs.lawful.Laws as clock
+use Rattle.parts.specs.declared.event.Event.{Event}
 use Rattle.parts.specs.declared.interrupts.Interrupts.{Interrupts}
 use Rattle.card.specs.declared.card.Card.{Card}
-use Rattle.parts.specs.Events.{withLatch}
+use Rattle.parts.specs.Events.{matching, edgeTaken}
 use Rattle.parts.specs.Interrupts.{interruptsWritten, lineUp, eventRaised}
 use Rattle.card.specs.Cards.{answer, granted, withTimeLatch, withEvent, withInterrupts, withQueue}
 use Rattle.parts.specs.Pending.{raised, cleared}
 use Rattle.parts.proofs.interrupts.Laws.{writes-intstat}
 use Rattle.card.specs.Lawful.{lawful}
-use Rattle.card.specs.Registers.{readRefusal, readRegister, shown, value, wordsAt, wordsNow, writeRefusal, writeRegister, written, captures, edge, interruptLine, line, lineRefusal}
+use Rattle.card.specs.Registers.{lastRegister, readRefusal, readRegister, shown, value, wordsAt, wordsNow, writeRefusal, writeRegister, written, edge, interruptLine, line, lineRefusal}
 use Rattle.wire.proofs.words.Laws.{words-within, in-ranges}
 use Rattle.wire.proofs.words.RoundTrip.{read-written}
 use Rattle.parts.proofs.queue.Laws.{fill-within}
@@ -85,10 +86,10 @@ module _ (c : Card) (reg : ℕ) where
   unfolding shown
   shows-event a b d = simp (ne-eqb reg 0 a, lt-leb reg 5 b, le-leb reg 10 d)
 
-  pub shows-vector : 10 < reg → (reg ≡ 11 → ⊥) → (reg ≡ 12 → ⊥) → (reg ≡ 14 → ⊥) → (reg ≡ 15 → ⊥) → (reg ≡ 16 → ⊥) → c .interrupts .vector ≡ shown c reg
+  pub shows-missed : 10 < reg → (reg ≡ 11 → ⊥) → (reg ≡ 12 → ⊥) → (reg ≡ 14 → ⊥) → (reg ≡ 15 → ⊥) → (reg ≡ 16 → ⊥) → (reg ≡ 17 → ⊥) → c .event .missed ≡ shown c reg
   unfolding shown
-  shows-vector l p q r s t =
-      simp (ne-eqb reg 0 (λ z. omega arith), lt-leb reg 5 (omega arith), lt-leb reg 10 l, ne-eqb reg 11 p, ne-eqb reg 12 q, ne-eqb reg 14 r, ne-eqb reg 15 s, ne-eqb reg 16 t)
+  shows-missed l p q r s t u =
+      simp (ne-eqb reg 0 (λ z. omega arith), lt-leb reg 5 (omega arith), lt-leb reg 10 l, ne-eqb reg 11 p, ne-eqb reg 12 q, ne-eqb reg 14 r, ne-eqb reg 15 s, ne-eqb reg 16 t, ne-eqb reg 17 u)
 
 -- what a writing answers
 module _ (c : Card) (reg v n : ℕ) (k : Bool) (ek : k ≡ lawful c) (en : n ≡ writeRefusal k reg (c .queue .fill)) where
@@ -111,21 +112,21 @@ module _ (c : Card) (reg v n : ℕ) (k : Bool) (ek : k ≡ lawful c) (en : n ≡
   write-gives h d e = ap (answer d) h ∙ e ∙ write-done h
 
 -- the lines behind 2: a register in reach of writing
-module _ (k : Bool) (reg fill : ℕ) (l : k ≡ true) (m : reg ≤ 17) (g : 10 < reg) where
+module _ (k : Bool) (reg fill : ℕ) (l : k ≡ true) (m : reg ≤ lastRegister) (g : 10 < reg) where
   two : (leb 1 reg && leb reg 10) ≡ false
   two = ap (λ (t : Bool). leb 1 reg && t) (lt-leb reg 10 g) ∙ and-false (leb 1 reg)
 
   pub write-3 : reg ≡ 13 → fill ≡ 64 → 3 ≡ writeRefusal k reg fill
   unfolding writeRefusal
-  write-3 r e = simp (l, le-ltb 17 reg m, two, eq-eqb reg 13 r, eq-eqb fill 64 e)
+  write-3 r e = simp (l, le-ltb lastRegister reg m, two, eq-eqb reg 13 r, eq-eqb fill 64 e)
 
   pub write-0 : (eqb reg 13 && eqb fill 64) ≡ false → 0 ≡ writeRefusal k reg fill
   unfolding writeRefusal
-  write-0 e = simp (l, le-ltb 17 reg m, two, e)
+  write-0 e = simp (l, le-ltb lastRegister reg m, two, e)
 
-pub write-2 : (k : Bool) (reg fill : ℕ) → k ≡ true → reg ≤ 17 → (reg ≡ 0 → ⊥) → reg ≤ 10 → 2 ≡ writeRefusal k reg fill
+pub write-2 : (k : Bool) (reg fill : ℕ) → k ≡ true → reg ≤ lastRegister → (reg ≡ 0 → ⊥) → reg ≤ 10 → 2 ≡ writeRefusal k reg fill
 unfolding writeRefusal
-write-2 k reg fill l m z t = simp (l, le-ltb 17 reg m, le-leb 1 reg (pos-of-ne-zero z), le-leb reg 10 t)
+write-2 k reg fill l m z t = simp (l, le-ltb lastRegister reg m, le-leb 1 reg (pos-of-ne-zero z), le-leb reg 10 t)
 
 -- room in a lawful card's queue
 pub queue-within : (c : Card) → lawful c ≡ true → c .queue .fill ≤ 64
@@ -149,22 +150,22 @@ module _ (c : Card) (v : ℕ) (k : Bool) (ek : k ≡ lawful c) where
   fifo-joins h e bs eb = ap (λ (l : List ℕ). answer (withQueue c (record { bytes = l; fill = c .queue .fill + 1 })) 0) eb ∙ simp (sym ek ∙ h, ne-eqb (c .queue .fill) 64 e)
 
 -- the interrupt registers
-pub writes-interrupts : (c : Card) (reg v : ℕ) → (reg ≡ 0 → ⊥) → (reg ≡ 11 → ⊥) → (reg ≡ 12 → ⊥) → (reg ≡ 13 → ⊥)
+pub writes-interrupts : (c : Card) (reg v : ℕ) → (reg ≡ 0 → ⊥) → (reg ≡ 11 → ⊥) → (reg ≡ 12 → ⊥) → (reg ≡ 13 → ⊥) → (reg ≡ 18 → ⊥)
     → answer (withInterrupts c (interruptsWritten (c .interrupts) reg v)) 0 ≡ written c reg v
 unfolding written
-writes-interrupts c reg v a b d e = simp (ne-eqb reg 0 a, ne-eqb reg 11 b, ne-eqb reg 12 d, ne-eqb reg 13 e)
+writes-interrupts c reg v a b d e f = simp (ne-eqb reg 0 a, ne-eqb reg 11 b, ne-eqb reg 12 d, ne-eqb reg 13 e, ne-eqb reg 18 f)
 
 -- what an edge answers
-module _ (c : Card) (falling : Bool) (k t : Bool) (ek : k ≡ lawful c) (et : t ≡ captures (c .event .control) falling) where
+module _ (c : Card) (falling : Bool) (k t : Bool) (ek : k ≡ lawful c) (et : t ≡ matching (c .event .control) falling) where
   pub edge-18 : k ≡ false → answer c 18 ≡ edge c falling
   unfolding edge granted
   edge-18 h = simp (sym ek ∙ h)
 
-  pub edge-captured : k ≡ true → t ≡ true → (ws : List ℕ) → ws ≡ wordsNow c → (i : Interrupts) → i ≡ eventRaised (c .interrupts)
-      → answer (withInterrupts (withEvent c (withLatch (c .event) ws)) i) 0 ≡ edge c falling
+  pub edge-matched : k ≡ true → t ≡ true → (e : Event) → e ≡ edgeTaken (c .event) (wordsNow c) → (i : Interrupts) → i ≡ eventRaised (c .interrupts)
+      → answer (withInterrupts (withEvent c e) i) 0 ≡ edge c falling
   unfolding edge granted
-  edge-captured h u ws ew i ei =
-      ap₂ (λ (l : List ℕ) (j : Interrupts). answer (withInterrupts (withEvent c (withLatch (c .event) l)) j) 0) ew ei
+  edge-matched h u e ee i ei =
+      ap₂ (λ (x : Event) (j : Interrupts). answer (withInterrupts (withEvent c x) j) 0) ee ei
       ∙ simp (sym ek ∙ h, sym et ∙ u)
 
   pub edge-other : k ≡ true → t ≡ false → answer c 0 ≡ edge c falling
@@ -187,7 +188,7 @@ module _ (c : Card) (k : Bool) (ek : k ≡ lawful c) where
 
 -- ---- for the laws above: the pending bits that an accepted edge and INTSTAT leave
 
-pub edge-takes : (c : Card) (falling : Bool) → lawful c ≡ true → captures (c .event .control) falling ≡ true
+pub edge-takes : (c : Card) (falling : Bool) → lawful c ≡ true → matching (c .event .control) falling ≡ true
     → edge c falling .card .interrupts .pending ≡ raised 1 true (c .interrupts .pending)
 unfolding edge granted
 edge-takes c falling l t = simp (l, t)

@@ -67,7 +67,7 @@ module _ (t : Bool) (i j x : ℕ) (a : i < 5) (b : j < 5) (h : x < 32) where
 pub raised-below : (t : Bool) (j x : ℕ) → j < 5 → x < 32 → raised (2 ^ j) t x < 32
 raised-below t j x b h = ltb-true _ _ (raise-both t 0 j x (lit< tt) b h .1)
 
--- a captured edge raises bit 0 and no other
+-- a matching edge raises bit 0 and no other
 pub event-raises : (i x : ℕ) → i < 5 → x < 32 → bit (2 ^ i) (raised 1 true x) ≡ (bit (2 ^ i) x || eqb i 0)
 event-raises i x l h = one-raised true i 0 x l (lit< tt) h ∙ by i l (bit (2 ^ i) x)
   where

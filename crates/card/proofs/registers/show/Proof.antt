@@ -4,7 +4,7 @@ use mathlib.Core.Path.{sym, ap, _∙_}
 use mathlib.Core.Bool.{Bool}
 use Rattle.wire.specs.Digits.{pick}
 use Rattle.card.specs.Registers.{shown}
-use Rattle.card.proofs.registers.Laws.{shows-time, shows-event, shows-vector}
+use Rattle.card.proofs.registers.Laws.{shows-time, shows-event, shows-missed}
 use borrow.Author.Needs.{needs}
 use Rattle.card.proofs.registers.show.Statement.{statement}
 use Rattle.card.proofs.registers.show.Tie as tie
@@ -81,10 +81,14 @@ unfolding shown
 returns-9 c = ap (shown (c .before .before .before .before .before .args .card)) (sym (c .before .match .keys5))
 
 returns-10 : tie.Need-returns-10
-returns-10 c =
-    let s = c .before .before .before .before .before .args in
-    let r = c .before .match .rest in
-    shows-vector (s .card) (s .reg) (c .before .before .if3 .left) (r .0 .0 .0 .0 .1) (r .0 .0 .0 .1) (r .0 .0 .1) (r .0 .1) (r .1)
+unfolding shown
+returns-10 c = ap (shown (c .before .before .before .before .before .args .card)) (sym (c .before .match .keys6))
+
+returns-11 : tie.Need-returns-11
+returns-11 c =
+    let s = c .before .before .before .before .args in
+    let r = c .match .rest in
+    shows-missed (s .card) (s .reg) (c .before .if3 .left) (r .0 .0 .0 .0 .0 .1) (r .0 .0 .0 .0 .1) (r .0 .0 .0 .1) (r .0 .0 .1) (r .0 .1) (r .1)
 
 pub show-spec : {M : Type 1} → statement M
 show-spec =
@@ -110,4 +114,5 @@ show-spec =
     returns-7
     returns-8
     returns-9
-    returns-10)
+    returns-10
+    returns-11)
