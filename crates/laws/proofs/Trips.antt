@@ -226,11 +226,13 @@ module _ (k : Call) (ks : List Call) (c : Card) (u : Unopened (k ∷ ks) c) wher
           missed = r .missed ∙ ap₂ (λ (n : ℕ) (ds : List Card). min 65535 (n + length (drop 1 ds))) m e;
         }
 
+-- a closed latch stays as it is and counts
 pub stays-closed : (ks : List Call) (c : Card) → Unopened ks c → c .event .closed ≡ true → StaysClosed ks c
 stays-closed [] c u h = record { closed = h; latch = refl; missed = count-same (c .event .missed) (u .count) }
 stays-closed (k ∷ ks) c u h =
     ⊎-elim (closed-passed k ks c u h (stays-closed ks (after k c))) (closed-missed k ks c u h (stays-closed ks (after k c))) (step k c (u .none .0))
 
+-- an open one with bit 2 set keeps the first, and then counts
 pub keeps-first : (ks : List Call) (c : Card) → Unopened ks c → c .event .closed ≡ false → keepsFirst (c .event .control) ≡ true → FirstKept ks c
 keeps-first [] c u h b = record { closed = h; latch = refl; missed = count-same (c .event .missed) (u .count) }
 keeps-first (k ∷ ks) c u h b =
