@@ -257,7 +257,8 @@ class Card:
     def edges(self, times, falling):
         """One after another; the number is that of the last."""
         number = (0,)
-        for _ in range(min(times, MOST_EDGES)):
+        assert times <= MOST_EDGES
+        for _ in range(times):
             number = self.edge(falling)
         return number
 
