@@ -58,6 +58,8 @@ def main():
             w = m.group(0)
             if lemmas and w in LEMMAS and text[m.start() - 1:m.start()] not in (".", ":"):
                 return w + "_lem"
+            if w in FACTS and (not path.startswith("crates/clock") or not path.endswith(".antt") or text[text.rfind("\n", 0, m.start()) + 1:m.start()].lstrip().startswith("--")):
+                return w
             return turned.get(w, w)
 
         out = NAME.sub(new, text)

@@ -1,4 +1,6 @@
 // The bench program.
+#![tactic(auto)]
+
 fn main() {
     shell::bench();
 }

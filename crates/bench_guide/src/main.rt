@@ -1,4 +1,6 @@
 // The bench, on the input beside it.
+#![tactic(auto)]
+
 fn main() {
     shell::bench();
 }

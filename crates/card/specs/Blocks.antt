@@ -23,7 +23,7 @@ one_by_one c (b ∷ bs) =
     pick (eqb (write_register c 13 b).number 0) (behind 1 (one_by_one (write_register c 13 b).card bs))
     (block_answer (write_register c 13 b).card (write_register c 13 b).number 0)
 
--- the same of a lawful card; 18 Comes first, beside an empty row too
+-- the same of a lawful card; 18 comes first, beside an empty row too
 unfoldable pub write_block : Card → List ℕ → BlockAnswer
 write_block c row = pick (lawful c) (one_by_one c row) (block_answer c 18 0)
 

@@ -8,7 +8,7 @@ use crate::lawful::is_lawful;
 use wire::numbers;
 
 // What writing a block answers: the card afterwards, the number, and how many bytes were taken, beside 3 too.
-#[derive(Drop)]
+#[derive(Clone, Copy)]
 pub struct BlockAnswer {
     pub card: Card,
     pub number: u8,

@@ -6,7 +6,7 @@ use parts::interrupts::Interrupts;
 use parts::queue::Queue;
 use parts::settings::Settings;
 
-#[derive(Drop)]
+#[derive(Clone, Copy)]
 pub struct Card {
     pub clock: Clock,
     pub settings: Settings,
@@ -19,7 +19,7 @@ pub struct Card {
 }
 
 // What a call that changes the card answers: the card afterwards, and the number.
-#[derive(Drop)]
+#[derive(Clone, Copy)]
 pub struct Answer {
     pub card: Card,
     pub number: u8,

@@ -2,6 +2,8 @@
 //
 // What is proved: every call answers, for every card that may be handed in and every argument, exactly what its definition in specs/ says: its number, its
 // values, the whole card afterwards and every lent row.
+#![tactic(auto)]
+
 pub mod blocks;
 pub mod card;
 pub mod lawful;

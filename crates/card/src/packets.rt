@@ -10,8 +10,8 @@ use parts::settings::{Settings, apply};
 use wire::numbers;
 use wire::packets::{PacketRead, read_packet};
 
-// What a queue Comes to when it is read as one packet: the settings and the done bit afterwards, and the number.
-#[derive(Drop)]
+// What a queue comes to when it is read as one packet: the settings and the done bit afterwards, and the number.
+#[derive(Clone, Copy)]
 struct Taken {
     settings: Settings,
     done: bool,

@@ -17,7 +17,7 @@ use wire::words::words_of;
 pub const LAST_REGISTER: u8 = 18;
 
 // What reading a register answers: the card afterwards, the number and the value, 0 beside a refusal.
-#[derive(Drop)]
+#[derive(Clone, Copy)]
 pub struct Value {
     pub card: Card,
     pub number: u8,
@@ -25,7 +25,7 @@ pub struct Value {
 }
 
 // The interrupt line: its number, whether it is up, and if it is, the level and the vector.
-#[derive(Drop)]
+#[derive(Clone, Copy)]
 pub struct InterruptLine {
     pub number: u8,
     pub up: bool,

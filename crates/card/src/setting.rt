@@ -10,7 +10,7 @@ use clock::setting::{Dividers, StrobeAt};
 use parts::settings::jam_fits;
 use wire::numbers;
 
-// The card with what its clock answered: 18 where it is not lawful. A refused clock Comes back as it was.
+// The card with what its clock answered: 18 where it is not lawful. A refused clock comes back as it was.
 fn with_clock(card: Card, answer: setting::Answer) -> Answer
     ensures { result ≡ on_clock card answer }
 {

@@ -10,7 +10,7 @@ use wire::numbers;
 use wire::time::Ticks;
 
 // What a wait answers: its number, the ticks passed and the records written; both 0 beside a refusal.
-#[derive(Drop)]
+#[derive(Clone, Copy)]
 pub struct Waited {
     pub number: u8,
     pub passed: Ticks,
@@ -18,7 +18,7 @@ pub struct Waited {
 }
 
 // The same with the card that it leaves.
-#[derive(Drop)]
+#[derive(Clone, Copy)]
 pub struct WaitedCard {
     pub card: Card,
     pub waited: Waited,
@@ -46,7 +46,7 @@ fn pass_lawful(card: Card, ticks: Ticks, row: &mut [u64]) -> Passed
 }
 
 // A wait of at most a day: lists in the row every tick after the start, up to the last tick passed, on which second, strobe or periodic falls. It stops
-// early only if there are more such ticks than places. Refused by 18, 15, 14 and 16, in this order, it changes nothing: a refused clock Comes back as it
+// early only if there are more such ticks than places. Refused by 18, 15, 14 and 16, in this order, it changes nothing: a refused clock comes back as it
 // was, with zeros and no source.
 pub fn wait(card: Card, ticks: Ticks, row: &mut [u64]) -> WaitedCard
     ensures { (result ≡ wait card ticks.ticks (length row.old)) × (row.new ≡ row_waited card ticks.ticks row.old) }

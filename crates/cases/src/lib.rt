@@ -1,6 +1,8 @@
 // The numbers of a script, decimal and each behind a space: read from a line, which is a letter and its numbers, and written to standard output.
 //
 // What is proved: the number behind so many spaces is what the definitions in specs/ read there, for every text. Of the writing, only that nothing goes wrong.
+#![tactic(auto)]
+
 pub mod writing;
 
 ghost use Rattle.std.specs.Prelude.{◌≡◌, ◌+◌, ◌-◌, ◌*◌, ◌%◌, ◌&&◌, eqb};

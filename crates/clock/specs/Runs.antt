@@ -13,7 +13,7 @@ use Rattle.clock.specs.Falling.{falls, periodic_falls}
 use Rattle.clock.specs.Waiting.{records}
 use Rattle.clock.specs.Sources.{reach, Ready, second_on, strobe_on, within}
 
--- ---- what Comes in turn: f has what falls on each tick, 0 where nothing does
+-- ---- what comes in turn: f has what falls on each tick, 0 where nothing does
 
 -- v is the record of the first tick after a on which anything falls
 pub record First (f : ℕ → ℕ) (a v : ℕ) : Type 0 where
@@ -196,7 +196,7 @@ pub record FillsFrom (s : Filling) (at hi : ℕ) (row₀ row₁ : List ℕ) (r :
       → Going c n row f g at a s row₀ → GoneTo c n row f g hi r row₁
   pub stopped : (r.written ≡ length row₀) ⊎ ((hi ≤ r.next / 8) × (hi ≤ r.periodic / 8))
 
--- what a row Comes to that was filled up to the next fall: all ticks have passed if that is not among them, else those up to its last record
+-- what a row comes to that was filled up to the next fall: all ticks have passed if that is not among them, else those up to its last record
 pub record EndsWith (first : Sources) (n : ℕ) (s : Filling) (next : ℕ) (row : List ℕ) (r : Listed) : Type 0 where
   pub passed : r.passed ≡ pick (leb next n) (get_or row (length row - 1) 0 / 8) n
   pub told : r ≡ record { passed = r.passed; written = s.written; fell = within first r.passed; next = s.periodic / 8 }

@@ -64,7 +64,7 @@ pub record Ready (c : Clock) (r : Sources) : Type 0 where
 abbrev pub lone_strobe : Sources → ℕ
 lone_strobe s = pick (eqb s.strobe.period 10000000) 1728000000001 s.strobe.next
 
--- ---- what filling a row Comes to
+-- ---- what filling a row comes to
 
 -- the sources whose first fall is within p ticks
 abbrev pub within : Sources → ℕ → Fell

@@ -20,7 +20,7 @@ days_before year = days_over 1 (year - 1)
 abbrev pub instant : ℕ → ℕ → ℕ → Time
 instant year day tick = record { year = year; day = day; tick = record { ticks = tick } }
 
--- one tick later: after the last tick of a day Comes tick 0 of the next day, after the last day, day 1 of the next year
+-- one tick later: after the last tick of a day comes tick 0 of the next day, after the last day, day 1 of the next year
 unfoldable pub next : Time → Time
 next t =
     pick (ltb (t.tick.ticks + 1) ticks_of_day) (instant t.year t.day (t.tick.ticks + 1))

@@ -16,14 +16,14 @@ const NEVER: u64 = 2 * TICKS_OF_DAY + 1;
 pub(crate) const SECOND: u64 = 10_000_000;
 
 // A source: the tick of its next fall, and the ticks from each fall to the one after.
-#[derive(Drop)]
+#[derive(Clone, Copy)]
 pub(crate) struct Source {
     pub next: u64,
     pub period: u64,
 }
 
 // The three sources.
-#[derive(Drop)]
+#[derive(Clone, Copy)]
 pub(crate) struct Sources {
     pub second: Source,
     pub strobe: Source,

@@ -3,6 +3,8 @@
 // What is proved: whatever the clock and the row, a wait answers what its definition in specs/ says: it lists every tick on which something falls, once, in
 // order, with exactly its sources, and moves the clock on by the ticks passed; or it refuses by the page's number and changes nothing. The days before a year, as code
 // works them out, are those that pass on this clock.
+#![tactic(auto)]
+
 pub mod clock;
 mod falling;
 pub mod lawful;

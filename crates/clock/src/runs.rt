@@ -1,4 +1,4 @@
-// Runs: what falls, as records, written by loops that only add. Second and strobe are beats, which come in turn; the periodic output Comes between them.
+// Runs: what falls, as records, written by loops that only add. Second and strobe are beats, which come in turn; the periodic output comes between them.
 ghost use Rattle.std.specs.Prelude.{◌≡◌, ℕ, ◌+◌, ◌*◌, ◌/◌, ◌≤◌, ◌<◌, min, length};
 ghost use Rattle.clock.specs.Runs.{Timely, Spaced, Sized, BeatsOf, Begins, Runs, Keeps, Steps, Advances, Fills, added_on, beat_past, output_past, Strobes};
 
@@ -10,8 +10,8 @@ const QUICK: u64 = 8 * SECOND / 40;
 // A period, in records, from which on beats run from one fall of the output to the next: three seconds.
 const RARE: u64 = 8 * SECOND * 3;
 
-// Two records that come in turn: the next, the one after it, and the distance at which either Comes again.
-#[derive(Drop)]
+// Two records that come in turn: the next, the one after it, and the distance at which either comes again.
+#[derive(Clone, Copy)]
 pub(crate) struct Turns {
     pub next: u64,
     pub after: u64,
@@ -19,16 +19,16 @@ pub(crate) struct Turns {
 }
 
 // Where a run ends: the two that would have come next, and the records that stand in the row.
-#[derive(Drop)]
+#[derive(Clone, Copy)]
 pub(crate) struct Ran {
     pub next: u64,
     pub after: u64,
     pub written: usize,
 }
 
-// A row being filled: the next beat, the one after it and the distance at which either Comes again; the next fall of the periodic output and its distance; and the
+// A row being filled: the next beat, the one after it and the distance at which either comes again; the next fall of the periodic output and its distance; and the
 // records that stand in the row.
-#[derive(Drop)]
+#[derive(Clone, Copy)]
 pub(crate) struct Filling {
     pub next: u64,
     pub after: u64,
@@ -45,7 +45,7 @@ pub(crate) fn less(a: u64, b: u64) -> u64
     if a < b { a } else { b }
 }
 
-// Second and strobe as beats. A strobe each second Comes in turn with the second, or always with it; any other is no beat, and the second Comes in turn with itself.
+// Second and strobe as beats. A strobe each second comes in turn with the second, or always with it; any other is no beat, and the second comes in turn with itself.
 fn beats_of(s: Sources) -> Turns
     requires { Timely s }
     ensures { BeatsOf s result }

@@ -10,14 +10,14 @@ use wire::numbers;
 use wire::time::{Milliseconds, tick_at};
 
 // What a call that sets one thing answers: the clock afterwards, and the number.
-#[derive(Drop)]
+#[derive(Clone, Copy)]
 pub struct Answer {
     pub clock: Clock,
     pub number: u8,
 }
 
 // When the strobe is to fall: never; each day at a time of day; each second at a millisecond.
-#[derive(Drop)]
+#[derive(Clone, Copy)]
 pub enum StrobeAt {
     Off,
     Daily {
@@ -30,7 +30,7 @@ pub enum StrobeAt {
 }
 
 // What the periodic output is to be divided by.
-#[derive(Drop)]
+#[derive(Clone, Copy)]
 pub enum Dividers {
     Off,
     By(u32, u32),

@@ -5,7 +5,7 @@ ghost use Rattle.clock.specs.Time.{days_in, days_before, later, time_lawful};
 use wire::time::{TICKS_OF_DAY, Ticks};
 
 // An instant: a year 1 to 9999, a day within it from 1 on, a tick of day.
-#[derive(Drop)]
+#[derive(Clone, Copy)]
 pub struct Time {
     pub year: u16,
     pub day: u16,

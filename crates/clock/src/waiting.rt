@@ -16,7 +16,7 @@ use wire::numbers;
 use wire::time::{TICKS_OF_DAY, Ticks};
 
 // Which of the three sources fell.
-#[derive(Drop)]
+#[derive(Clone, Copy)]
 pub struct Fell {
     pub periodic: bool,
     pub strobe: bool,
@@ -25,7 +25,7 @@ pub struct Fell {
 
 // What a wait answers: the clock that it leaves, its number, the ticks passed, the records written, and the sources that they have; beside a refusal the
 // clock as it was, zeros and none.
-#[derive(Drop)]
+#[derive(Clone, Copy)]
 pub struct Passed {
     pub clock: Clock,
     pub number: u8,
@@ -34,8 +34,8 @@ pub struct Passed {
     pub fell: Fell,
 }
 
-// What filling a row Comes to: the ticks passed, the records written, the sources that they have, and the next fall of the periodic output.
-#[derive(Drop)]
+// What filling a row comes to: the ticks passed, the records written, the sources that they have, and the next fall of the periodic output.
+#[derive(Clone, Copy)]
 struct Listed {
     passed: u64,
     written: usize,
@@ -79,7 +79,7 @@ fn fill_from(s: Filling, strobe: u64, end: u64, row: &mut [u64]) -> Filling
     fill(r, end, row)
 }
 
-// What a row Comes to that was filled up to the next fall.
+// What a row comes to that was filled up to the next fall.
 fn ends(first: Sources, ticks: u64, s: Filling, next: u64, row: &[u64]) -> Listed
     requires { 0 < length row.now }
     ensures { EndsWith first ticks s next row.now result }

@@ -17,13 +17,13 @@ pub record IsNearest (wanted : ℕ) (p : Pair) : Type 0 where
 
 -- THE ONE PAIR
 
--- the rule between two pairs: p Comes before q if its distance is smaller; of equal distances if its product is; of equal products if its n1 is
+-- the rule between two pairs: p comes before q if its distance is smaller; of equal distances if its product is; of equal products if its n1 is
 unfoldable pub before : ℕ → Pair → Pair → Bool
 before wanted p q =
     ltb (distance wanted p) (distance wanted q)
     || (eqb (distance wanted p) (distance wanted q) && (ltb (product p) (product q) || (eqb (product p) (product q) && ltb p.n1 q.n1)))
 
--- of the pairs f 0 to f n, the one that Comes before the others
+-- of the pairs f 0 to f n, the one that comes before the others
 unfoldable pub first_of : ℕ → (ℕ → Pair) → ℕ → Pair
 first_of wanted f zero = f 0
 first_of wanted f (suc n) = pick (before wanted (f (suc n)) (first_of wanted f n)) (f (suc n)) (first_of wanted f n)

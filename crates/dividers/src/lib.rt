@@ -2,5 +2,7 @@
 //
 // What is proved: of all lawful pairs none is nearer than the one given back, none as near has a smaller product, and none of the same product a smaller n1; there is one
 // such pair for every wanted period, and no other.
+#![tactic(auto)]
+
 pub mod nearest;
 pub mod pairs;

@@ -7,7 +7,7 @@ use crate::pairs::{LARGEST, Measured, Pair, SMALLEST, measure, nearer};
 use wire::numbers;
 
 // The nearest pair, its period and its distance from the wanted one in nanoseconds, and the number.
-#[derive(Drop)]
+#[derive(Clone, Copy)]
 pub struct Found {
     pub pair: Pair,
     pub period: u64,

@@ -1,4 +1,6 @@
 // The script beside it: frames written and read, and rows of a stream's elements, with the stream's record after each.
+#![tactic(auto)]
+
 fn main() {
     script::run();
 }

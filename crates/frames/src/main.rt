@@ -1,8 +1,10 @@
 // Lists the frames in standard input, whose bytes are elements: a line for each frame, in the order in which they end, with the number of its element 0, counted from 0 over the
 // whole input, its own number, and, where that is 0, its day and its tick of day. `tests/frames.py` says what stands in the input.
 //
-// What is proved of the frames is proved of `irig::stream`, for every input and however it Comes. No contract can say what is read or written, so here it is proved only that
+// What is proved of the frames is proved of `irig::stream`, for every input and however it comes. No contract can say what is read or written, so here it is proved only that
 // nothing goes wrong and that the program ends.
+#![tactic(auto)]
+
 mod lines;
 
 ghost use Rattle.std.specs.Prelude.{◌+◌, ◌≤◌, length};
@@ -14,7 +16,7 @@ use std::num::wrapping_add_u64;
 
 // The stream after a part of the input, how many elements were taken of the whole input, and whether to go on. 64 bits count more elements than any input has; behind so many
 // the count would begin again at 0.
-#[derive(Drop)]
+#[derive(Clone, Copy)]
 struct Kept {
     stream: Stream,
     taken: u64,
@@ -22,7 +24,7 @@ struct Kept {
 }
 
 // How many bytes of lines a row holds, and whether all that was to be written could be.
-#[derive(Drop)]
+#[derive(Clone, Copy)]
 struct Filled {
     fill: usize,
     whole: bool,

@@ -1,5 +1,5 @@
 -- Any run of calls finds just the frames of the elements that it took, in their order and at their places, and leaves the record that these elements leave: so nothing depends on
--- the cuts. By what Comes of the elements one by one. Assumes nothing.
+-- the cuts. By what comes of the elements one by one. Assumes nothing.
 use Prim.Native.Nat.{ℕ, zero, suc, ◌+◌, ◌-◌, ◌≤◌, ◌<◌}
 use mathlib.Core.Path.{◌≡◌, refl, sym, ◌∙◌, ap, ap₂}
 use mathlib.Core.Bool.{Bool, true, false, ◌&&◌}

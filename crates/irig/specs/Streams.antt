@@ -20,7 +20,7 @@ searching marked = record { elements = replicate 100 0; held = 0; marked = marke
 abbrev pub fresh_stream : Stream
 fresh_stream = searching false
 
--- a record that some calls of ours leave; any other is 18. While searching it holds nothing, and the mark is free. While a frame Comes in it holds 1 to 99 elements, the first
+-- a record that some calls of ours leave; any other is 18. While searching it holds nothing, and the mark is free. While a frame comes in it holds 1 to 99 elements, the first
 -- of them a marker and the others anything, and the mark is clear. Behind what it holds stand zeros.
 unfoldable pub lawful : Stream → Bool
 lawful s =

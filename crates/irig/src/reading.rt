@@ -12,7 +12,7 @@ use wire::words::{TimeRead, read_words};
 const SPARES: u64 = 9_007_199_254_740_992;
 
 // Whether all elements fit, and then the number that holds them.
-#[derive(Drop)]
+#[derive(Clone, Copy)]
 pub(crate) struct Summed {
     pub fits: bool,
     pub number: u64,

@@ -5,7 +5,7 @@ ghost use Rattle.irig.specs.Streams.{searched};
 use crate::table::MARKER;
 
 // What a search came to: how many elements it took, whether the last of them is the second of two markers, and, if it is not, whether it is a marker.
-#[derive(Drop)]
+#[derive(Clone, Copy)]
 pub(crate) struct Searched {
     pub taken: usize,
     pub marked: bool,

@@ -11,7 +11,7 @@ use wire::numbers;
 use wire::words::TimeRead;
 
 // What has come of a frame, with zeros behind it; and, while none has begun, whether the element before was a marker.
-#[derive(Drop)]
+#[derive(Clone, Copy)]
 pub struct Stream {
     pub elements: [u8; 100],
     pub held: usize,
@@ -19,14 +19,14 @@ pub struct Stream {
 }
 
 // Whether a frame was finished, and then what it is read as.
-#[derive(Drop)]
+#[derive(Clone, Copy)]
 pub enum Finished {
     Nothing,
     Frame(TimeRead),
 }
 
 // What taking a row answers: the record afterwards, the number, how many elements were taken, and the frame that they finished.
-#[derive(Drop)]
+#[derive(Clone, Copy)]
 pub struct RowTaken {
     pub stream: Stream,
     pub number: u8,
@@ -124,7 +124,7 @@ fn hold(begun: [u8; 100], held: usize, row: &[u8], from: usize) -> RowTaken
     }
 }
 
-// Takes what a row has of the frame whose element 0 stands right before a place. A frame that is whole in the row is read where it stands; what Comes of a shorter one is held.
+// Takes what a row has of the frame whose element 0 stands right before a place. A frame that is whole in the row is read where it stands; what comes of a shorter one is held.
 fn begin(row: &[u8], from: usize) -> RowTaken
     requires { (0 < from) × (from ≤ length row.now) × (get_or row.now (from - 1) 0 ≡ 2) }
     ensures { result ≡ behind from (one_by_one first_held (drop from row.now)) }
@@ -144,7 +144,7 @@ fn begin(row: &[u8], from: usize) -> RowTaken
 }
 
 // Takes the elements of a row up to and including the last of a frame, or all of them: the record afterwards, how many were taken, and the frame, if one was finished,
-// with its number and time. 18 for a record that no calls leave, and then it Comes back as it was and nothing is taken.
+// with its number and time. 18 for a record that no calls leave, and then it comes back as it was and nothing is taken.
 pub fn take_row(stream: Stream, row: &[u8]) -> RowTaken
     ensures { result ≡ take_row stream row.now }
 {

@@ -67,7 +67,7 @@ pub data Example : Type 0 where
   packet : List ℕ → PacketRead → Example
   -- bytes, and the number that ACK gives them, put into the empty queue of any lawful card, with the jam on and with it off
   taken : List ℕ → (on off : ℕ) → Example
-  -- settings, calls by which a fresh card Comes to have them, and their five bytes, saved by any lawful card that has them, and loaded by any
+  -- settings, calls by which a fresh card comes to have them, and their five bytes, saved by any lawful card that has them, and loaded by any
   saved : Settings → List Call → List ℕ → Example
   -- a wait of 10,000,000 ticks, of any such card, and that there is one
   wait : Wait → Example

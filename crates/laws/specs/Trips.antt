@@ -16,7 +16,7 @@ pub data Opens : Call → Type 0 where
 
 -- MATCHING EDGES
 
--- an accepted edge of the chosen kind, with capture on, as the card that it Comes on; no other call is one
+-- an accepted edge of the chosen kind, with capture on, as the card that it comes on; no other call is one
 unfoldable pub matched_by : Call → Card → List Card
 matched_by (Call.set_time year day hour minute second) c = []
 matched_by (Call.read reg) c = []

@@ -4,3 +4,4 @@
 // no call touches what it is not said to touch; waits continue one another; a block leaves the card that its bytes leave one by one; a large offset is held
 // only with the jam off; a closed event latch keeps the first trip and counts the edges behind it; a frame that reads is the
 // one that is written for some card; every year ends after the days that the leap rule gives it; the page's examples hold.
+#![tactic(auto)]

@@ -1,4 +1,6 @@
 // The wait in place, of a card that is lent to it for the call.
+#![tactic(auto)]
+
 ghost use Rattle.std.specs.Prelude.{◌≡◌, length};
 ghost use Rattle.card.specs.Waiting.{wait, row_waited};
 

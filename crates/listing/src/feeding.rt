@@ -17,14 +17,14 @@ const FIRST_NUMBER: u64 = 1;
 
 // The bytes held of a piece that is not at its end, as a card's queue, and the piece's number. No other crate can reach them, so no bench is handed in that
 // no call here has left.
-#[derive(Drop)]
+#[derive(Clone, Copy)]
 pub struct Bench {
     queue: Queue,
     number: u64,
 }
 
 // What feeding answers: the bench afterwards, the bytes taken, and the bytes written to the row.
-#[derive(Drop)]
+#[derive(Clone, Copy)]
 pub struct Fed {
     pub bench: Bench,
     pub taken: usize,
@@ -32,7 +32,7 @@ pub struct Fed {
 }
 
 // How far listing came: the bytes taken, the next number, and the place behind the lines.
-#[derive(Drop)]
+#[derive(Clone, Copy)]
 pub(crate) struct Reached {
     pub taken: usize,
     pub number: u64,

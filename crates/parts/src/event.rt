@@ -8,7 +8,7 @@ use wire::time::Ticks;
 use wire::words::{words_fit, words_of};
 
 // CONTROL, which decides what edges match; whether the event latch is closed, how many edges it missed, and its words.
-#[derive(Drop)]
+#[derive(Clone, Copy)]
 pub struct Event {
     pub control: u8,
     pub closed: bool,

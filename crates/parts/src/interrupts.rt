@@ -5,7 +5,7 @@ ghost use Rattle.parts.specs.Interrupts.{with_pending, interrupts_lawful, interr
 use crate::pending::{clear, raise, some_meet};
 
 // MASK, the pending bits, LEVEL and VECTOR.
-#[derive(Drop)]
+#[derive(Clone, Copy)]
 pub struct Interrupts {
     pub mask: u8,
     pub pending: u8,

@@ -2,6 +2,8 @@
 //
 // What is proved: each part's ranges are decided as the page has them, and what calls do to one part alone is what its definition in specs/ says; settings that
 // are saved are loaded as the same settings.
+#![tactic(auto)]
+
 pub mod event;
 pub mod interrupts;
 mod pending;

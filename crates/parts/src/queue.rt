@@ -4,7 +4,7 @@ ghost use Rattle.wire.specs.Digits.{below};
 ghost use Rattle.parts.specs.Queues.{empty_queue, queue_lawful, total};
 
 // Its first `fill` bytes, with zeros behind them.
-#[derive(Drop)]
+#[derive(Clone, Copy)]
 pub struct Queue {
     pub bytes: [u8; 64],
     pub fill: usize,

@@ -9,7 +9,7 @@ use wire::numbers;
 use wire::packets::{ClockSource, Format, Generator, Modulation, offset_size};
 
 // What bytes are loaded as: settings, or nothing.
-#[derive(Drop)]
+#[derive(Clone, Copy)]
 pub enum SettingsRead {
     Is(Settings),
     Refused,

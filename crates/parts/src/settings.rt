@@ -7,7 +7,7 @@ use wire::packets::{
     pair_means,
 };
 
-#[derive(Drop)]
+#[derive(Clone, Copy)]
 pub struct Settings {
     pub mode: u8,
     pub format: Format,

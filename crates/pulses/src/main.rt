@@ -1,5 +1,7 @@
-// Tries the SYNC board: a call on each line of standard input, made on the board that the line before it left, and any record at all may be handed in between. Out Comes
+// Tries the SYNC board: a call on each line of standard input, made on the board that the line before it left, and any record at all may be handed in between. Out comes
 // the line, behind it the number and what else the call gives back, and all that stands in the board afterwards. `tests/pulses.py` says how a line is written.
+#![tactic(auto)]
+
 mod boards;
 mod calls;
 

@@ -1,8 +1,10 @@
-// A script: a call on each line of standard input, made on the card that the line before it left. Out Comes what the line says of itself, the number, and whatever else
+// A script: a call on each line of standard input, made on the card that the line before it left. Out comes what the line says of itself, the number, and whatever else
 // the call gives back; asked to, also all that stands in the card. `tests/script.py` says how a line is written.
 //
 // The programs over it differ in their input alone. No contract can say what is read or written, so here it is proved only that nothing goes wrong and that a
 // script ends; what the calls do is proved of the calls.
+#![tactic(auto)]
+
 mod calls;
 mod cards;
 mod elements;

@@ -1,14 +1,16 @@
 // The bench's reading and writing: the listing of standard input to standard output, `PKT ANS` and a line for each piece.
 //
-// What is proved of the listing is proved of `listing::feeding`, for every input and however it Comes. No contract can say what is read or written, so
+// What is proved of the listing is proved of `listing::feeding`, for every input and however it comes. No contract can say what is read or written, so
 // here it is proved only that nothing goes wrong and that the program ends.
+#![tactic(auto)]
+
 ghost use Rattle.std.specs.Prelude.{◌≤◌, length};
 
 use libc::{STDIN_FILENO, STDOUT_FILENO};
 use listing::feeding::{Bench, feed, finish, start};
 
 // The bench after a part of the input, whether to go on, and whether all that was to be written could be.
-#[derive(Drop)]
+#[derive(Clone, Copy)]
 struct Kept {
     bench: Bench,
     going: bool,

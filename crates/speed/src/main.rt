@@ -6,6 +6,8 @@
 // the places that it takes, 0 for the whole row.
 //
 // No contract can say what is written, so here it is proved only that nothing goes wrong and that the loops end; what the calls do is proved of the calls.
+#![tactic(auto)]
+
 mod asking;
 mod cards;
 mod changing;
@@ -34,8 +36,8 @@ use wire::time::Milliseconds;
 // The longest row, which just fits a stack of 8 MiB.
 const LONGEST: usize = 1_000_000;
 
-// What a name Comes to: the loop's checksum, or that no loop has it.
-#[derive(Drop)]
+// What a name comes to: the loop's checksum, or that no loop has it.
+#[derive(Clone, Copy)]
 enum Outcome {
     Sum(u64),
     Unknown,

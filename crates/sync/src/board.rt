@@ -3,7 +3,7 @@ ghost use Rattle.std.specs.Prelude.{◌≡◌};
 ghost use Rattle.sync.specs.Boards.{switches_fit, started, fresh_board};
 
 // Its switches; whether a pulse was ever seen, and the microseconds since the last one, held at 1,008,001; bit 15 of its register; and which interrupts wait.
-#[derive(Drop)]
+#[derive(Clone, Copy)]
 pub struct Board {
     pub rc1: u8,
     pub base: u8,
@@ -16,7 +16,7 @@ pub struct Board {
 }
 
 // The board afterwards, and the number.
-#[derive(Drop)]
+#[derive(Clone, Copy)]
 pub struct Answer {
     pub board: Board,
     pub number: u8,
@@ -45,7 +45,7 @@ pub(crate) fn start(rc1: u8, base: u8) -> Board
     }
 }
 
-// A board as it Comes: RC1 1, base 0.
+// A board as it comes: RC1 1, base 0.
 pub fn fresh_board() -> Board
     ensures { result ≡ fresh_board }
 {

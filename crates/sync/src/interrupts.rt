@@ -8,14 +8,14 @@ use crate::lawful::is_lawful;
 use wire::numbers;
 
 // The vector of the one that was taken. No vector says that none waits: 0 is one too.
-#[derive(Drop)]
+#[derive(Clone, Copy)]
 pub enum Interrupt {
     NoneWaits,
     Vector(u8),
 }
 
 // The board afterwards, what was taken, and the number.
-#[derive(Drop)]
+#[derive(Clone, Copy)]
 pub struct Taken {
     pub board: Board,
     pub interrupt: Interrupt,

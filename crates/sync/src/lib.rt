@@ -2,6 +2,8 @@
 //
 // What is proved: every call does what its definition in specs/ says, for every record that may be handed in; a record is lawful exactly if some calls leave it; and a run
 // of quiet microseconds, however long, is as many single steps.
+#![tactic(auto)]
+
 pub mod board;
 mod counting;
 pub mod interrupts;

@@ -8,7 +8,7 @@ use crate::lawful::is_lawful;
 use wire::numbers;
 
 // What it shows, and the number.
-#[derive(Drop)]
+#[derive(Clone, Copy)]
 pub struct Reading {
     pub value: u16,
     pub number: u8,

@@ -1,4 +1,6 @@
 // What is told of a card, and of the rows that its calls fill: numbers, each behind a space.
+#![tactic(auto)]
+
 use card::card::Card;
 use cases::writing::{put, put_bool, put_byte, put_short};
 use clock::clock::{Clock, Periodic, Strobe};

@@ -1,4 +1,6 @@
 // The script beside it: edges, captured, missed and passed over, and all that opens a closed latch, with the whole card.
+#![tactic(auto)]
+
 fn main() {
     script::run();
 }

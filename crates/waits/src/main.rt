@@ -1,4 +1,6 @@
 // The script beside it: waits, by value and in place.
+#![tactic(auto)]
+
 fn main() {
     script::run();
 }

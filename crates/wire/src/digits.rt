@@ -9,7 +9,7 @@ ghost use Rattle.wire.specs.Digits.{digits, num, Splits, PairTable};
 const SHARES_IN_UNIT: u64 = 0x8000_0000_0000;
 
 // Whole units, and the shares that are left.
-#[derive(Drop)]
+#[derive(Clone, Copy)]
 pub(crate) struct Counted {
     pub count: u64,
     pub rest: u64,

@@ -6,7 +6,7 @@ ghost use Rattle.wire.specs.Packets.{mode_means, pair_means, offset_fits, offset
 use crate::numbers;
 
 // The time code's format, by its letter.
-#[derive(Drop)]
+#[derive(Clone, Copy)]
 pub enum Format {
     A,
     B,
@@ -16,28 +16,28 @@ pub enum Format {
 }
 
 // Its modulation: an amplitude modulated carrier, or DC levels.
-#[derive(Drop)]
+#[derive(Clone, Copy)]
 pub enum Modulation {
     M,
     D,
 }
 
 // Which clock the card runs on.
-#[derive(Drop)]
+#[derive(Clone, Copy)]
 pub enum ClockSource {
     External,
     Internal,
 }
 
 // The code that the generator writes, by its letter.
-#[derive(Drop)]
+#[derive(Clone, Copy)]
 pub enum Generator {
     B,
     H,
 }
 
 // One packet, by its id: A mode, G offset in ticks, H format and modulation, I clock source, K generator code.
-#[derive(Drop)]
+#[derive(Clone, Copy)]
 pub enum Packet {
     A(u8),
     G(i32),
@@ -47,21 +47,21 @@ pub enum Packet {
 }
 
 // What a row reads as: a packet and whether it needs the jam off, or the number of the refusal.
-#[derive(Drop)]
+#[derive(Clone, Copy)]
 pub enum PacketRead {
     Is(Packet, bool),
     Refused(u8),
 }
 
 // What writing answers: its number and the bytes written, 0 beside a refusal.
-#[derive(Drop)]
+#[derive(Clone, Copy)]
 pub struct PacketWritten {
     pub number: u8,
     pub bytes: usize,
 }
 
 // The number that ASCII digits write.
-#[derive(Drop)]
+#[derive(Clone, Copy)]
 enum Number {
     Is(u32),
     Bad,

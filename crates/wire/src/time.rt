@@ -6,13 +6,13 @@ ghost use Rattle.wire.specs.Time.{ticks_of, tick_at};
 pub const TICKS_OF_DAY: u64 = 864_000_000_000;
 
 // A span or an instant in ticks of 100 ns.
-#[derive(Drop)]
+#[derive(Clone, Copy)]
 pub struct Ticks {
     pub ticks: u64,
 }
 
 // A span or an instant in milliseconds.
-#[derive(Drop)]
+#[derive(Clone, Copy)]
 pub struct Milliseconds {
     pub ms: u32,
 }

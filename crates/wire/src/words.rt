@@ -21,14 +21,14 @@ const TENTH_IN_HUNDREDTHS: u64 = 140_737_489;
 const BLOCK_IN_SECONDS: u64 = 1_801_439_851;
 
 // What words are written as: the number, and five zero words beside a refusal.
-#[derive(Drop)]
+#[derive(Clone, Copy)]
 pub struct WordsWritten {
     pub number: u8,
     pub words: [u16; 5],
 }
 
 // What words are read as: the number, and day 0 and tick 0 beside a refusal.
-#[derive(Drop)]
+#[derive(Clone, Copy)]
 pub struct TimeRead {
     pub number: u8,
     pub day: u16,

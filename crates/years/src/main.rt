@@ -1,6 +1,8 @@
-// Ends every year. Standard input has a byte for each, from year 1 on: the last digit of how many days it has. Out Comes a line for each year: the year and its days; the
-// numbers given back when the day after its last one is set, and then held; when its last second is set, and a second waited; the time to which that wait Comes; and the days
+// Ends every year. Standard input has a byte for each, from year 1 on: the last digit of how many days it has. Out comes a line for each year: the year and its days; the
+// numbers given back when the day after its last one is set, and then held; when its last second is set, and a second waited; the time to which that wait comes; and the days
 // before the year. `tests/years.py` says what they must be.
+#![tactic(auto)]
+
 use card::card::Card;
 use card::registers::interrupt_line;
 use card::reset::fresh_card;

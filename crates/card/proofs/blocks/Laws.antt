@@ -1,4 +1,4 @@
--- A block into the queue: what writing bytes to FIFO one after another Comes to, and that it is what is stored at once. Assumes nothing.
+-- A block into the queue: what writing bytes to FIFO one after another comes to, and that it is what is stored at once. Assumes nothing.
 use Prim.Native.Nat.{ℕ, zero, suc, ◌+◌, ◌-◌, ◌%◌, ◌≤◌, ◌<◌, min}
 use mathlib.Core.Path.{◌≡◌, refl, sym, ap, ap₂, ◌∙◌}
 use mathlib.Core.Bool.{Bool, true, false}

@@ -1,5 +1,5 @@
 -- Each source falls on the ticks that leave one remainder by its period; so its next fall is a distance of remainders, and the one after
--- Comes a period later. Assumes nothing.
+-- comes a period later. Assumes nothing.
 use Prim.Native.Nat.{ℕ, ◌+◌, ◌-◌, ◌*◌, ◌/◌, ◌%◌, ◌≤◌, ◌<◌}
 use mathlib.Core.Path.{◌≡◌, refl, sym, ◌∙◌, ap}
 use mathlib.Core.Bool.{Bool, true, false, ◌&&◌}

@@ -1,4 +1,4 @@
--- A source that falls again a period after each fall Comes in turn with itself, whatever its weight and its period; so do two that always fall together; and two of one
+-- A source that falls again a period after each fall comes in turn with itself, whatever its weight and its period; so do two that always fall together; and two of one
 -- period that do not come in turn with each other. Assumes nothing.
 use Prim.Native.Nat.{ℕ, zero, suc, ◌+◌, ◌*◌, ◌/◌, ◌≤◌, ◌<◌}
 use mathlib.Core.Path.{◌≡◌, refl, ◌∙◌, ap}

@@ -1,4 +1,4 @@
--- What Comes in turn and alone is listed as it Comes: one law over what falls, its weight and its distance, which every run and every single record rests on. Two that
+-- What comes in turn and alone is listed as it comes: one law over what falls, its weight and its distance, which every run and every single record rests on. Two that
 -- come in turn stay so past each fall. Assumes nothing.
 use Prim.Native.Nat.{ℕ, zero, suc, pred, ◌+◌, ◌-◌, ◌*◌, ◌/◌, ◌%◌, ◌≤◌, ◌<◌}
 use mathlib.Core.Path.{◌≡◌, refl, sym, ◌∙◌, ap}
@@ -76,7 +76,7 @@ held_more c n row₀ row a i v d u m l h =
       last = λ z. ap (λ (r : ℕ). r / 8) (ap (λ (rs : List ℕ). get_or rs (pred (i + 1)) 0) e ∙ get_or_at (records c a) v [] 0 (pred (i + 1)) (h.count ∙ omega arith));
     }
 
--- what Comes in turn, if nothing else falls up to it
+-- what comes in turn, if nothing else falls up to it
 pub turn : (c : Clock) (f : ℕ → ℕ) (a x : ℕ) → x / 8 ≤ reach → First f a x → ((k : ℕ) → a < k → k ≤ x / 8 → falls c k ≡ f k) → First (falls c) a x
 turn c f a x m u alone = record {
   above = u.above;

@@ -1,4 +1,4 @@
--- Years in a row: how many days they have. Any 400 have 146,097, since the rule Comes round in them; the days before a year have a closed form; and they are the days that pass on
+-- Years in a row: how many days they have. Any 400 have 146,097, since the rule comes round in them; the days before a year have a closed form; and they are the days that pass on
 -- the card's own clock. Assumes nothing.
 use Prim.Native.Nat.{ℕ, zero, suc, ◌+◌, ◌-◌, ◌*◌, ◌/◌, ◌%◌, ◌≤◌, ◌<◌}
 use mathlib.Core.Path.{◌≡◌, refl, sym, ◌∙◌, ap}
@@ -29,7 +29,7 @@ over_add first m (suc n) =
 
 -- ---- 400 years
 
--- the rule Comes round in 400 years
+-- the rule comes round in 400 years
 pub comes-round : (year : ℕ) → days_in (year + 400) ≡ days_in year
 unfolding days_in
 comes-round year =
@@ -133,7 +133,7 @@ years-later first (suc n) =
     ∙ year-later (first + n)
     ∙ ap (λ (y : ℕ). instant y 1 0) (omega arith)
 
--- every lawful time Comes after the first tick of year 1 by the days before its year, the days before its day, and its tick of day
+-- every lawful time comes after the first tick of year 1 by the days before its year, the days before its day, and its tick of day
 pub counted : (t : Time) → time_lawful t ≡ true → later ((days_before t.year + (t.day - 1)) * ticks_of_day + t.tick.ticks) (instant 1 1 0) ≡ t
 counted t l =
     let p : Proper t = (in-range t l).proper in

@@ -106,7 +106,7 @@ module _ (c : Clock) where
         heard c 4 first.second.next seconds (λ k. has-second k (periodic_on k) (strobed k) (seconds k)) h.second.rhythm.first p l,
       )
 
--- what a filled row Comes to
+-- what a filled row comes to
 pub told : (c : Clock) (first : Sources) (n p i next : ℕ) (row₀ row : List ℕ) → Ready c first → n ≤ ticks_of_day → Filled c n row₀ row p i → NextFall (periodic_falls c.periodic) p next
     → Lists c n (length row₀) (record { passed = p; written = i; fell = within first p; next = next }) × (row ≡ row_listed c n row₀)
 told c first n p i next row₀ row r d f h =

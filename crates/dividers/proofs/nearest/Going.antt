@@ -14,7 +14,7 @@ use Rattle.dividers.specs.Nearest.{before, with_n1, nearest, Begins}
 use Rattle.dividers.proofs.pairs.Laws.{Within, within, is_lawful, turned, rank, by-distance, by-n1, rank-distance}
 use Rattle.dividers.proofs.nearest.Laws.{sooner, row_fits, row-n1, row-least, least-is}
 
--- with every n1 before this one met: the best is a lawful pair, and none that was met is exact or Comes before it
+-- with every n1 before this one met: the best is a lawful pair, and none that was met is exact or comes before it
 pub record Met (wanted n1 : ℕ) (best : Pair) : Type 0 where
   pub low : 2 ≤ n1
   pub fits : lawful best ≡ true
@@ -82,7 +82,7 @@ module _ (wanted : ℕ) (most : wanted ≤ 429483622500) where
             (λ (s : distance wanted q ≤ 0). by-n1 wanted next q a b (omega arith) (not-before q l s))
             (lt-or-le 0 (distance wanted q))
 
-    -- no exact pair: of it and the best, the one that Comes before the other goes on
+    -- no exact pair: of it and the best, the one that comes before the other goes on
     pub goes_on_lem : 0 < distance wanted (with_n1 wanted n1) → Met wanted (n1 + 1) (pick (before wanted (with_n1 wanted n1) best) (with_n1 wanted n1) best)
     goes_on_lem z =
         record {

@@ -1,4 +1,4 @@
--- The pair that Comes before all others is nearest by the plain rule, and no other is: its rank is the least. Assumes nothing.
+-- The pair that comes before all others is nearest by the plain rule, and no other is: its rank is the least. Assumes nothing.
 use Prim.Native.Nat.{ℕ, zero, suc, ◌+◌, ◌-◌, ◌*◌, ◌≤◌, ◌<◌}
 use mathlib.Core.Path.{◌≡◌, refl, sym, ap, subst, ◌∙◌}
 use mathlib.Core.Bool.{Bool, true, false, ◌&&◌, ◌||◌, or-false}
@@ -29,7 +29,7 @@ times-100 : (m n : ℕ) → ltb (100 * m) (100 * n) ≡ ltb m n
 times-100 m n = ⊎_elim (λ l. lt-ltb (100 * m) (100 * n) (omega arith) ∙ sym (lt-ltb m n l)) (λ g. le-ltb (100 * m) (100 * n) (omega arith) ∙ sym (le-ltb m n g)) (lt-or-le m n)
 
 module _ (wanted : ℕ) where
-  -- the one of two pairs that Comes before the other
+  -- the one of two pairs that comes before the other
   pub sooner : (p q : Pair) → Within p → Within q → Least wanted (pick (before wanted p q) p q) p q
   unfolding before
   sooner p q a b = go _ _ _ _ _ refl refl refl refl refl
@@ -43,7 +43,7 @@ module _ (wanted : ℕ) where
       go false true false true true c d e f g = (le_refl _, by-n1 wanted p q a b (eqb-true _ _ f) (le_of_lt (ltb-true _ _ g)))
       go false true false true false c d e f g = (by-n1 wanted q p b a (sym (eqb-true _ _ f)) (ltb-false _ _ g), le_refl _)
 
-  -- of two pairs, the second of which has no larger n1, `nearer` takes the one that Comes before the other
+  -- of two pairs, the second of which has no larger n1, `nearer` takes the one that comes before the other
   pub nearer-is : (p q : Pair) → q.n1 ≤ p.n1 → nearer (measured wanted p) (measured wanted q) ≡ measured wanted (pick (before wanted p q) p q)
   unfolding before nearer
   nearer-is p q h =
@@ -155,7 +155,7 @@ module _ (wanted : ℕ) where
         least-n1 = λ q l. rank-n1 wanted p q (within p h) (within q l) (least q l);
       }
 
-  -- and is the one that Comes before all others
+  -- and is the one that comes before all others
   pub least-is : (p : Pair) → lawful p ≡ true → ((q : Pair) → lawful q ≡ true → rank wanted p ≤ rank wanted q) → p ≡ nearest wanted
   least-is p h least =
       one_rank wanted p (nearest wanted) (within p h) (within (nearest wanted) nearest-fits) (least (nearest wanted) nearest-fits) (nearest-least p h)

@@ -54,7 +54,7 @@ module _ (wanted n1 : ℕ) (a : 2 ≤ n1) (b : n1 ≤ 65535) where
       no-worse m (λ n s l k. by-distance wanted (pair n1 m) (pair n1 n) (bounds m t) (bounds n s) (omega arith))
       (λ n s l k. let d : distance wanted (pair n1 m) ≤ distance wanted (pair n1 n) = omega arith in omega arith)
 
-  -- so it is the n2 of the pair that Comes before the others
+  -- so it is the n2 of the pair that comes before the others
   only : (m : ℕ) → Divider m → ((n : ℕ) → Divider n → rank wanted (pair n1 m) ≤ rank wanted (pair n1 n)) → m ≡ (with_n1 wanted n1).n2
   only m s least =
       ap (λ (p : Pair). p.n2)

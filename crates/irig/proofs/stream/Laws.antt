@@ -1,4 +1,4 @@
--- What the code of the stream rests on: a search, and then elements that are held behind those that are, are what Comes of a row element by element.
+-- What the code of the stream rests on: a search, and then elements that are held behind those that are, are what comes of a row element by element.
 -- Assumes nothing.
 use Prim.Native.Nat.{ℕ, zero, suc, ◌+◌, ◌*◌, ◌-◌, ◌≤◌, ◌<◌}
 use mathlib.Core.Path.{◌≡◌, refl, sym, ◌∙◌, ap, ap₂}

@@ -249,7 +249,7 @@ module _ (row : List ℕ) (f : Field) where
   unfolding field_to sum_to
   to-own n o = ap (λ (x : ℕ). field_to row f n + x) (o.adds (get_or row n 0))
 
-  -- a bit does not see what Comes above it
+  -- a bit does not see what comes above it
   low : (i j : ℕ) → suc i ≡ count f (suc j) → (n : ℕ) → suc j ≤ n → n ≤ 100 → field_to row f n % 2 ^ suc i ≡ field_to row f (suc j) % 2 ^ suc i
   low i j c zero l h = absurd (omega arith)
   low i j c (suc n) l h =

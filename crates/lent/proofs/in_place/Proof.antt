@@ -1,4 +1,4 @@
--- `in_place` meets its contract: a walk of its MIR, by hand. The card is lent to `wait_in_place` for a lifetime that is made for the call, and Comes back as that call left it.
+-- `in_place` meets its contract: a walk of its MIR, by hand. The card is lent to `wait_in_place` for a lifetime that is made for the call, and comes back as that call left it.
 -- Assumes nothing.
 use mathlib.Core.Path.{◌≡◌, refl, ◌∙◌}
 use Prim.Native.Nat.{ℕ}

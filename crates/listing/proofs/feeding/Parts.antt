@@ -1,4 +1,4 @@
--- The law of the bench: in whatever parts an input Comes, and however much room each call has, what is written is the listing of the whole input.
+-- The law of the bench: in whatever parts an input comes, and however much room each call has, what is written is the listing of the whole input.
 -- By induction on the parts, from the laws of cutting. Assumes nothing.
 use Prim.Native.Nat.{ℕ, zero, suc, ◌+◌, ◌-◌, ◌≤◌, ◌<◌}
 use mathlib.Core.Path.{◌≡◌, refl, sym, ap, ap₂, ◌∙◌}

@@ -1,4 +1,4 @@
--- Pending bits raised twice: for the sources that fell, and then for others, Comes to once for those of both. Assumes nothing.
+-- Pending bits raised twice: for the sources that fell, and then for others, comes to once for those of both. Assumes nothing.
 use Prim.Native.Nat.{ℕ, ◌+◌, ◌*◌, ◌/◌, ◌%◌}
 use mathlib.Core.Path.{◌≡◌, refl, sym, ◌∙◌, ap}
 use mathlib.Core.Bool.{Bool, true, false, ◌||◌}
