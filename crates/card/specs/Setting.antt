@@ -12,7 +12,7 @@ use Rattle.parts.specs.Settings.{jam_fits}
 use Rattle.card.specs.declared.card.Card.{Card}
 use Rattle.card.specs.declared.card.Answer.{Answer}
 use Rattle.card.specs.Cards.{answer, granted, with_clock, with_jam}
-use Rattle.card.specs.Lawful.{lawful}
+use Rattle.card.specs.Lawful.{rest_lawful, lawful}
 
 -- 11 outside its ranges; the fraction becomes zero
 unfoldable pub set_time : Card → ℕ → ℕ → ℕ → ℕ → ℕ → Answer
@@ -36,6 +36,6 @@ switch_jam c on = granted (jam_lines c on) c (with_jam c on)
 
 -- WITHIN THE CRATE
 
--- the card with what its clock answered; 18 where it is not lawful
+-- the card with what its clock answered; 18 where it is not lawful elsewhere
 unfoldable pub on_clock : Card → ClockAnswer.Answer → Answer
-on_clock c a = pick (lawful c) (answer (with_clock c a.clock) a.number) (answer c 18)
+on_clock c a = pick (rest_lawful c) (answer (with_clock c a.clock) a.number) (answer c 18)

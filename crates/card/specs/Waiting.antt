@@ -1,10 +1,9 @@
 -- Waiting, of a card: its clock passes the window, and the pending bits of all listed sources are raised.
-use Rattle.std.specs.Prelude.{ℕ, false, not, List, ◌∷◌, length, eqb}
+use Rattle.std.specs.Prelude.{ℕ, not, List, ◌∷◌, length, eqb}
 use Rattle.wire.specs.Digits.{pick}
 use Rattle.wire.specs.Numbers.{◌if◌, given}
 use Rattle.clock.specs.declared.waiting.Fell.{Fell}
-use Rattle.clock.specs.declared.waiting.Passed.{Passed}
-use Rattle.clock.specs.Waiting.{listed, passed, row_listed, fell, clock_later, wait_lines, pass, row_passed}
+use Rattle.clock.specs.Waiting.{listed, passed, row_listed, fell, clock_later, wait_lines}
 use Rattle.parts.specs.Interrupts.{with_pending, sources_raised}
 use Rattle.card.specs.declared.card.Card.{Card}
 use Rattle.card.specs.declared.waiting.Waited.{Waited}
@@ -42,12 +41,3 @@ wait c n room =
 -- and what it leaves in the row
 unfoldable pub row_waited : Card → ℕ → List ℕ → List ℕ
 row_waited c n row = pick (eqb (wait_refusal c n (length row)) 0) (row_listed c.clock n row) row
-
--- WITHIN THE CRATE
-
--- what the clock of a card answers, and leaves in the row; 18, and nothing, where the card is not lawful
-unfoldable pub pass_on : Card → ℕ → ℕ → Passed
-pass_on c n room = pick (lawful c) (pass c.clock n room) (record { clock = c.clock; number = 18; passed = record { ticks = 0 }; written = 0; fell = record { periodic = false; strobe = false; second = false } })
-
-unfoldable pub row_on : Card → ℕ → List ℕ → List ℕ
-row_on c n row = pick (lawful c) (row_passed c.clock n row) row

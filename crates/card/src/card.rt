@@ -1,5 +1,5 @@
-// The card, as one value: every call takes it, and gives it back. Its parts are what calls change together, and they lie so that a part is copied whole: the clock, sixteen bytes of
-// settings and interrupts, sixteen of the event input with the two bits behind it, the time latch, and the queue.
+// The card, as one value: every call takes it, and gives it back. Its parts are what calls change together; the small ones come first, since a card is copied
+// faster so.
 use clock::clock::Clock;
 use parts::event::Event;
 use parts::interrupts::Interrupts;
@@ -8,13 +8,13 @@ use parts::settings::Settings;
 
 #[derive(Clone, Copy)]
 pub struct Card {
-    pub clock: Clock,
     pub settings: Settings,
-    pub interrupts: Interrupts,
-    pub event: Event,
     pub jam: bool,
+    pub interrupts: Interrupts,
     pub done: bool,
+    pub event: Event,
     pub time_latch: [u16; 5],
+    pub clock: Clock,
     pub queue: Queue,
 }
 

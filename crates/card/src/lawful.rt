@@ -11,7 +11,7 @@ use parts::queue::queue_fits;
 use parts::settings::{jam_fits, settings_fit};
 
 // What is not the clock's: the clock answers for its own ranges.
-fn rest_fits(card: Card) -> bool
+pub(crate) fn rest_fits(card: Card) -> bool
     ensures { result ≡ rest_lawful card }
 {
     let interrupts = card.interrupts;

@@ -4,18 +4,18 @@ ghost use Rattle.std.specs.Prelude.{◌≡◌};
 ghost use Rattle.card.specs.Setting.{set_time, set_strobe, set_periodic, switch_jam, on_clock};
 
 use crate::card::{Answer, Card};
-use crate::lawful::is_lawful;
+use crate::lawful::{is_lawful, rest_fits};
 use clock::setting;
 use clock::setting::{Dividers, StrobeAt};
 use parts::settings::jam_fits;
 use wire::numbers;
 
-// The card with what its clock answered: 18 where it is not lawful. A refused clock comes back as it was.
+// The card with what its clock answered: 18 where it is not lawful elsewhere. A refused clock comes back as it was.
 fn with_clock(card: Card, answer: setting::Answer) -> Answer
     ensures { result ≡ on_clock card answer }
 {
     let mut c = card;
-    if !is_lawful(card) {
+    if !rest_fits(card) {
         return Answer {
             card: c,
             number: numbers::UNLAWFUL,

@@ -1,10 +1,10 @@
 // Waiting, of a card: its clock passes the window and lists what falls, and the pending bits of all listed sources are raised.
 ghost use Rattle.std.specs.Prelude.{◌≡◌, length};
-ghost use Rattle.card.specs.Waiting.{wait, row_waited, pass_on, row_on};
+ghost use Rattle.card.specs.Waiting.{wait, row_waited};
 
 use crate::card::Card;
-use crate::lawful::is_lawful;
-use clock::waiting::{Fell, Passed, pass};
+use crate::lawful::rest_fits;
+use clock::waiting::pass;
 use parts::interrupts::raise_sources;
 use wire::numbers;
 use wire::time::Ticks;
@@ -24,40 +24,30 @@ pub struct WaitedCard {
     pub waited: Waited,
 }
 
-// What the clock of a card answers: 18 where the card is not lawful, and nothing passes then.
-fn pass_lawful(card: Card, ticks: Ticks, row: &mut [u64]) -> Passed
-    ensures { (result ≡ pass_on card ticks.ticks (length row.old)) × (row.new ≡ row_on card ticks.ticks row.old) }
-{
-    let clock = card.clock;
-    if is_lawful(card) {
-        return pass(clock, ticks, row);
-    }
-    Passed {
-        clock: clock,
-        number: numbers::UNLAWFUL,
-        passed: Ticks { ticks: 0 },
-        written: 0,
-        fell: Fell {
-            periodic: false,
-            strobe: false,
-            second: false,
-        },
-    }
-}
-
 // A wait of at most a day: lists in the row every tick after the start, up to the last tick passed, on which second, strobe or periodic falls. It stops
 // early only if there are more such ticks than places. Refused by 18, 15, 14 and 16, in this order, it changes nothing: a refused clock comes back as it
 // was, with zeros and no source.
 pub fn wait(card: Card, ticks: Ticks, row: &mut [u64]) -> WaitedCard
     ensures { (result ≡ wait card ticks.ticks (length row.old)) × (row.new ≡ row_waited card ticks.ticks row.old) }
 {
-    let p = pass_lawful(card, ticks, row);
+    let mut c = card;
+    if !rest_fits(card) {
+        return WaitedCard {
+            card: c,
+            waited: Waited {
+                number: numbers::UNLAWFUL,
+                passed: Ticks { ticks: 0 },
+                written: 0,
+            },
+        };
+    }
+    let clock = card.clock;
+    let p = pass(clock, ticks, row);
     let clock = p.clock;
     let fell = p.fell;
     let passed = p.passed;
     let interrupts = card.interrupts;
     let interrupts = raise_sources(interrupts, fell.periodic, fell.strobe, fell.second);
-    let mut c = card;
     c.clock = clock;
     c.interrupts = interrupts;
     WaitedCard {

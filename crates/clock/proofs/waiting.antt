@@ -1,6 +1,5 @@
 pub mod Window
 pub mod Heard
-pub mod Ended
 pub mod Laws
 pub mod Answer
 pub mod Resume

@@ -1,6 +1,5 @@
 pub mod Clocks
 pub mod Falling
-pub mod Runs
 pub mod Setting
 pub mod Sources
 pub mod Time

@@ -1,5 +1,5 @@
 -- WITHIN THE CRATE: what the functions behind a wait promise one another, the next fall of each source. Nothing here is a promise of the clock's.
-use Rattle.std.specs.Prelude.{ℕ, suc, ◌+◌, ◌*◌, ◌%◌, ◌≤◌, ◌<◌, ◌≡◌, Bool, true, false, ◌⊎◌, length, leb, eqb}
+use Rattle.std.specs.Prelude.{ℕ, ◌+◌, ◌%◌, ◌≤◌, ◌<◌, min, ◌≡◌, Bool, true, false, length, leb, eqb}
 use Rattle.wire.specs.Digits.{pick}
 use Rattle.wire.specs.Time.{ticks_of_day}
 use Rattle.clock.specs.declared.clock.Strobe.{Strobe}
@@ -27,42 +27,45 @@ second_on t k = second_falls (later k t).tick.ticks
 unfoldable pub strobe_on : Strobe → Time → ℕ → Bool
 strobe_on s t k = strobe_falls s (later k t).tick.ticks
 
--- a tick up to which falls are looked for: no wait passes more than a day, and no period is longer
-abbrev pub reach : ℕ
-reach = 2 * ticks_of_day
-
--- what falls on the ticks of a test falls on no tick between a and f, and, if f is within reach, on f
+-- what falls on the ticks of a test falls on no tick between a and f, and, if f is within a day, on f
 pub record NextFall (test : ℕ → Bool) (a f : ℕ) : Type 0 where
   pub above : a < f
-  pub hit : f ≤ reach → test f ≡ true
+  pub hit : f ≤ ticks_of_day → test f ≡ true
   pub none : (k : ℕ) → a < k → k < f → test k ≡ false
 
--- s has the first fall, and after each fall the next one is a period on
-pub record Rhythm (test : ℕ → Bool) (s : Source) : Type 0 where
-  pub first : NextFall test 0 s.next
+-- after tick a, s has the next fall, and after each fall the next one is a period on
+pub record Rhythm (test : ℕ → Bool) (a : ℕ) (s : Source) : Type 0 where
+  pub next : NextFall test a s.next
   pub again : (k : ℕ) → test k ≡ true → NextFall test k (k + s.period)
-  pub within : s.next ≤ s.period
-  pub small : s.period ≤ suc reach
+  pub small : s.period ≤ ticks_of_day
 
--- each second
-pub record Beating (test : ℕ → Bool) (s : Source) : Type 0 where
-  pub rhythm : Rhythm test s
-  pub each : s.period ≡ 10000000
+-- after tick a of a clock, r has the next fall of each source
+pub record Ready (c : Clock) (a : ℕ) (r : Sources) : Type 0 where
+  pub second : Rhythm (second_on c.time) a r.second
+  pub strobe : Rhythm (strobe_on c.strobe c.time) a r.strobe
+  pub periodic : Rhythm (periodic_falls c.periodic) a r.periodic
 
--- each second, or once a day at most
-pub record Strobing (test : ℕ → Bool) (s : Source) : Type 0 where
-  pub rhythm : Rhythm test s
-  pub kind : (s.period ≡ 10000000) ⊎ (ticks_of_day ≤ s.period)
+-- ---- from one fall to the next
 
--- r has the first fall of each source of a clock
-pub record Ready (c : Clock) (r : Sources) : Type 0 where
-  pub second : Beating (second_on c.time) r.second
-  pub strobe : Strobing (strobe_on c.strobe c.time) r.strobe
-  pub periodic : Rhythm (periodic_falls c.periodic) r.periodic
+abbrev pub least_of : Sources → ℕ
+least_of s = min (min s.second.next s.strobe.next) s.periodic.next
 
--- the tick of a strobe that does not fall each second, beyond reach where it does
-abbrev pub lone_strobe : Sources → ℕ
-lone_strobe s = pick (eqb s.strobe.period 10000000) 1728000000001 s.strobe.next
+-- the sources whose next fall is on a tick, as a record adds them up
+unfoldable pub marks : Sources → ℕ → ℕ
+marks s at = pick (eqb s.periodic.next at) 1 0 + (pick (eqb s.strobe.next at) 2 0 + pick (eqb s.second.next at) 4 0)
+
+-- a source past a tick: a period on if it fell there
+unfoldable pub past_of : Source → ℕ → Source
+past_of s at = pick (eqb s.next at) (record { next = at + s.period; period = s.period }) s
+
+unfoldable pub all_past : Sources → ℕ → Sources
+all_past s at = record { second = past_of s.second at; strobe = past_of s.strobe at; periodic = past_of s.periodic at }
+
+-- no period is above a day
+pub record Brief (s : Sources) : Type 0 where
+  pub second : s.second.period ≤ ticks_of_day
+  pub strobe : s.strobe.period ≤ ticks_of_day
+  pub periodic : s.periodic.period ≤ ticks_of_day
 
 -- ---- what filling a row comes to
 
@@ -70,9 +73,5 @@ lone_strobe s = pick (eqb s.strobe.period 10000000) 1728000000001 s.strobe.next
 abbrev pub within : Sources → ℕ → Fell
 within first p = record { periodic = leb first.periodic.next p; strobe = leb first.strobe.next p; second = leb first.second.next p }
 
--- what a wait of n ticks lists, and the next fall of the periodic output after the ticks passed
-pub record Lists (c : Clock) (n room : ℕ) (r : Listed) : Type 0 where
-  pub passed : r.passed ≡ passed c n room
-  pub written : r.written ≡ length (listed c n room)
-  pub fell : r.fell ≡ fell (listed c n room)
-  pub next : NextFall (periodic_falls c.periodic) r.passed r.next
+unfoldable pub listing : Clock → ℕ → ℕ → Listed
+listing c n room = record { passed = passed c n room; written = length (listed c n room); fell = fell (listed c n room) }

@@ -8,7 +8,6 @@
 pub mod clock;
 mod falling;
 pub mod lawful;
-mod runs;
 pub mod setting;
 pub mod time;
 pub mod waiting;

@@ -1,16 +1,14 @@
 // Waiting: every fall of a window, once, in order.
-ghost use Rattle.std.specs.Prelude.{◌≡◌, true, [], ◌-◌, ◌/◌, ◌≤◌, ◌<◌, length, get_or, leb};
+ghost use Rattle.std.specs.Prelude.{◌≡◌, true, [], ◌+◌, ◌*◌, ◌≤◌, ◌<◌, min, length, eqb};
 ghost use Rattle.wire.specs.Digits.{pick};
-ghost use Rattle.clock.specs.Falling.{periodic_lawful, periodic_falls};
+ghost use Rattle.clock.specs.Falling.{periodic_lawful};
 ghost use Rattle.clock.specs.Clocks.{clock_lawful};
 ghost use Rattle.clock.specs.Waiting.{row_listed, fell, count_later, clock_later, pass_refusal, pass, row_passed};
-ghost use Rattle.clock.specs.Sources.{NextFall, within, Lists};
-ghost use Rattle.clock.specs.Runs.{Sized, FillsFrom, EndsWith};
+ghost use Rattle.clock.specs.Sources.{least_of, marks, past_of, all_past, Brief, within, listing};
 
 use crate::clock::{Clock, Periodic};
-use crate::falling::{Sources, lone_strobe, sources_from};
+use crate::falling::{Source, Sources, sources_from};
 use crate::lawful::clock_fits;
-use crate::runs::{Filling, begin, by_strobe, fill, less};
 use crate::time::later_time;
 use wire::numbers;
 use wire::time::{TICKS_OF_DAY, Ticks};
@@ -34,18 +32,81 @@ pub struct Passed {
     pub fell: Fell,
 }
 
-// What filling a row comes to: the ticks passed, the records written, the sources that they have, and the next fall of the periodic output.
+// What filling a row comes to.
 #[derive(Clone, Copy)]
 struct Listed {
     passed: u64,
     written: usize,
     fell: Fell,
-    next: u64,
+}
+
+// The lesser of two numbers.
+fn less(a: u64, b: u64) -> u64
+    ensures { result ≡ min a b }
+{
+    if a < b { a } else { b }
+}
+
+// The least of the three next falls.
+fn least(s: Sources) -> u64
+    ensures { result ≡ least_of s }
+{
+    less(less(s.second.next, s.strobe.next), s.periodic.next)
+}
+
+// The weight of a source in a record, if its next fall is on that tick.
+fn mark(next: u64, at: u64, weight: u64) -> u64
+    ensures { (result ≡ pick (eqb next at) weight 0) × (result ≤ weight) }
+{
+    if next == at { weight } else { 0 }
+}
+
+// The record of a tick.
+fn record_on(s: Sources, at: u64) -> u64
+    requires { at ≤ 864000000000 }
+    ensures { result ≡ 8 * at + marks s at }
+{
+    let periodic = mark(s.periodic.next, at, 1);
+    let strobe = mark(s.strobe.next, at, 2);
+    let second = mark(s.second.next, at, 4);
+    8 * at + (periodic + (strobe + second))
+}
+
+// A source past a tick: a period on if it fell there.
+fn past(s: Source, at: u64) -> Source
+    requires { (at ≤ 864000000000) × (s.period ≤ 864000000000) }
+    ensures { result ≡ past_of s at }
+{
+    if s.next == at {
+        return Source {
+            next: at + s.period,
+            period: s.period,
+        };
+    }
+    s
+}
+
+// The three past a tick.
+fn all_past(s: Sources, at: u64) -> Sources
+    requires { (at ≤ 864000000000) × Brief s }
+    ensures { result ≡ all_past s at }
+{
+    let second = s.second;
+    let strobe = s.strobe;
+    let periodic = s.periodic;
+    let second = past(second, at);
+    let strobe = past(strobe, at);
+    let periodic = past(periodic, at);
+    Sources {
+        second: second,
+        strobe: strobe,
+        periodic: periodic,
+    }
 }
 
 // A row filled so far: a source has fallen exactly if its first fall is among the ticks passed, so nothing is gathered on the way.
-fn told(first: Sources, passed: u64, written: usize, next: u64) -> Listed
-    ensures { result ≡ record { passed = passed; written = written; fell = within first passed; next = next } }
+fn told(first: Sources, passed: u64, written: usize) -> Listed
+    ensures { result ≡ record { passed = passed; written = written; fell = within first passed } }
 {
     Listed {
         passed: passed,
@@ -55,69 +116,44 @@ fn told(first: Sources, passed: u64, written: usize, next: u64) -> Listed
             strobe: first.strobe.next <= passed,
             second: first.second.next <= passed,
         },
-        next: next,
     }
 }
 
-// The ticks passed: all of them if nothing more falls within them, else those up to the last record of the row, which is full then.
-fn ticks_passed(next: u64, ticks: u64, row: &[u64]) -> u64
-    requires { 0 < length row.now }
-    ensures { result ≡ pick (leb next ticks) (get_or row.now (length row.now - 1) 0 / 8) ticks }
-{
-    if next <= ticks {
-        return row[row.len() - 1] / 8;
-    }
-    ticks
-}
-
-// Fills the row from a strobe on that is no beat.
-fn fill_from(s: Filling, strobe: u64, end: u64, row: &mut [u64]) -> Filling
-    requires { Sized s × (strobe < end) × (end ≤ 864000000001) × (s.written < length row.old) × (strobe ≤ s.next / 8) × (strobe ≤ s.periodic / 8) }
-    ensures { FillsFrom s strobe end row.old row.new result }
-{
-    let r = by_strobe(s, strobe, row);
-    fill(r, end, row)
-}
-
-// What a row comes to that was filled up to the next fall.
-fn ends(first: Sources, ticks: u64, s: Filling, next: u64, row: &[u64]) -> Listed
-    requires { 0 < length row.now }
-    ensures { EndsWith first ticks s next row.now result }
-{
-    let passed = ticks_passed(next, ticks, row);
-    told(first, passed, s.written, s.periodic / 8)
-}
-
-// Fills the row with the records of a window. A strobe that is no beat falls once at most: the row is filled up to it, and from it on. Places behind stay as they were.
+// Fills the row with the records of a window, from one next fall to the next. Places behind them stay as they were.
 fn list(clock: Clock, ticks: u64, row: &mut [u64]) -> Listed
     requires { (clock_lawful clock ≡ true) × (ticks ≤ 864000000000) × (0 < length row.old) }
-    ensures { Lists clock ticks (length row.old) result × (row.new ≡ row_listed clock ticks row.old) }
+    ensures { (result ≡ listing clock ticks (length row.old)) × (row.new ≡ row_listed clock ticks row.old) }
 {
     let first = sources_from(clock);
-    let begun = begin(first);
-    let strobe = lone_strobe(first);
-    if ticks < strobe {
-        let s = fill(begun, ticks + 1, row);
-        return ends(first, ticks, s, less(s.next, s.periodic) / 8, row);
+    let mut next = first;
+    let mut last: u64 = 0;
+    let mut i: usize = 0;
+    while i < row.len() {
+        let at = least(next);
+        if ticks < at {
+            return told(first, ticks, i);
+        }
+        row[i] = record_on(next, at);
+        next = all_past(next, at);
+        last = at;
+        i += 1;
     }
-    let s = fill(begun, strobe, row);
-    if s.written == row.len() {
-        return ends(first, ticks, s, strobe, row);
+    if ticks < least(next) {
+        return told(first, ticks, i);
     }
-    let s = fill_from(s, strobe, ticks + 1, row);
-    ends(first, ticks, s, less(s.next, s.periodic) / 8, row)
+    told(first, last, i)
 }
 
-// The count so many ticks later, by the next fall after them.
-fn count_later(periodic: Periodic, ticks: u64, next: u64) -> Periodic
-    requires { (periodic_lawful periodic ≡ true) × (ticks ≤ 864000000000) × NextFall (periodic_falls periodic) ticks next }
+// The count so many ticks later.
+fn count_later(periodic: Periodic, ticks: u64) -> Periodic
+    requires { (periodic_lawful periodic ≡ true) × (ticks ≤ 864000000000) }
     ensures { result ≡ count_later ticks periodic }
 {
     match periodic {
         Periodic::Off => Periodic::Off,
-        Periodic::Every { n1, n2, count: _ } => {
+        Periodic::Every { n1, n2, count } => {
             let period = (n1 as u64) * (n2 as u64);
-            let gone = period - (next - ticks);
+            let gone = ((count as u64) + ticks) % period;
             Periodic::Every {
                 n1: n1,
                 n2: n2,
@@ -128,15 +164,15 @@ fn count_later(periodic: Periodic, ticks: u64, next: u64) -> Periodic
 }
 
 // The clock so many ticks later.
-fn clock_later(clock: Clock, ticks: u64, next: u64) -> Clock
-    requires { (clock_lawful clock ≡ true) × (ticks ≤ 864000000000) × NextFall (periodic_falls clock.periodic) ticks next }
+fn clock_later(clock: Clock, ticks: u64) -> Clock
+    requires { (clock_lawful clock ≡ true) × (ticks ≤ 864000000000) }
     ensures { result ≡ clock_later ticks clock }
 {
     let time = clock.time;
     let strobe = clock.strobe;
     let periodic = clock.periodic;
     let time = later_time(time, ticks);
-    let periodic = count_later(periodic, ticks, next);
+    let periodic = count_later(periodic, ticks);
     Clock {
         time: time,
         strobe: strobe,
@@ -193,7 +229,7 @@ pub fn pass(clock: Clock, ticks: Ticks, row: &mut [u64]) -> Passed
     }
     let listed = list(clock, ticks.ticks, row);
     let fell = listed.fell;
-    let later = clock_later(clock, listed.passed, listed.next);
+    let later = clock_later(clock, listed.passed);
     Passed {
         clock: later,
         number: numbers::DONE,

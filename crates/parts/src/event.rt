@@ -5,7 +5,7 @@ ghost use Rattle.wire.specs.Words.{words_or_zero};
 ghost use Rattle.parts.specs.Events.{latch_lawful, control_lawful, control_written, opened, matching, edge_taken};
 
 use wire::time::Ticks;
-use wire::words::{words_fit, words_of};
+use wire::words::{read_words, words_of};
 
 // CONTROL, which decides what edges match; whether the event latch is closed, how many edges it missed, and its words.
 #[derive(Clone, Copy)]
@@ -19,7 +19,19 @@ pub struct Event {
 fn five_zero(a: u16, b: u16, c: u16, d: u16, e: u16) -> bool
     ensures { result ≡ below 1 (a ∷ b ∷ c ∷ d ∷ e ∷ []) }
 {
-    (a < 1) & ((b < 1) & ((c < 1) & ((d < 1) & (e < 1))))
+    if 1 <= a {
+        return false;
+    }
+    if 1 <= b {
+        return false;
+    }
+    if 1 <= c {
+        return false;
+    }
+    if 1 <= d {
+        return false;
+    }
+    e < 1
 }
 
 fn latch_zero(words: [u16; 5]) -> bool
@@ -34,7 +46,7 @@ fn latch_fits(words: [u16; 5]) -> bool
     if latch_zero(words) {
         return true;
     }
-    words_fit(words)
+    read_words(words).number == 0
 }
 
 // Whether both latches are lawful: all zero, or readable. Zeros are looked for first, in both.

@@ -88,7 +88,3 @@ read_words ws = read_digits (unpacked 16 4 ws)
 -- the twenty digits of a time two at a time, as numbers: digits of base 100
 unfoldable pub pairs_of : ℕ → ℕ → List ℕ
 pairs_of day tick = 0 ∷ (digits 100 2 day ++ (hour_of tick ∷ minute_of tick ∷ second_of tick ∷ digits 100 4 (fraction_of tick * 10)))
-
--- the ranges of what is read, each field by its digits as they stand in the words
-unfoldable pub packed_in_range : ℕ → ℕ → ℕ → ℕ → Bool
-packed_in_range day hour minute second = leb 0x001 day && (leb day 0x366 && (leb hour 0x23 && (leb minute 0x59 && leb second 0x59)))

@@ -1,8 +1,8 @@
 // Time words: a day and a tick of day as five words of four decimal digits, and back.
-ghost use Rattle.std.specs.Prelude.{◌≡◌, [], ◌∷◌, ◌++◌, ◌<◌, eqb, take};
+ghost use Rattle.std.specs.Prelude.{◌≡◌, [], ◌∷◌, ◌++◌, ◌<◌, take};
 ghost use Rattle.wire.specs.Digits.{digits, num, below, unpacked, PairTable};
 ghost use Rattle.wire.specs.Time.{ticks_of_day, whole_seconds};
-ghost use Rattle.wire.specs.Words.{pairs_of, words_of, writable, words_or_zero, write_words, decimal, digits_refusal, read_words, packed_in_range};
+ghost use Rattle.wire.specs.Words.{pairs_of, words_of, writable, words_or_zero, write_words, decimal, in_range, read_words};
 
 use crate::digits::{pair_table, split, two};
 use crate::numbers;
@@ -134,46 +134,60 @@ pub fn words_of(day: u16, tick: Ticks) -> [u16; 5]
     write_words(day, tick).words
 }
 
-// Four words in 64 bits, the first of them highest.
-fn joined(b: u16, c: u16, d: u16, e: u16) -> u64
-    ensures { result ≡ num 65536 (b ∷ c ∷ d ∷ e ∷ []) }
+// No digit of the word is above 9.
+fn four_digits(w: u16) -> bool
+    ensures { result ≡ below 10 (digits 16 4 w) }
 {
-    (b as u64) * 281_474_976_710_656
-        + ((c as u64) * 4_294_967_296 + ((d as u64) * 65_536 + (e as u64)))
-}
-
-// No digit of sixteen is above 9. One that is has bit 3, and bit 2 or bit 1: shifted down, these meet at the place of bit 0, where the mask looks.
-fn sixteen_digits(n: u64) -> bool
-    ensures { result ≡ below 10 (digits 16 16 n) }
-{
-    ((n >> 3) & ((n >> 2) | (n >> 1))) & 0x1111_1111_1111_1111 == 0
+    if 10 <= w / 4096 % 16 {
+        return false;
+    }
+    if 10 <= w / 256 % 16 {
+        return false;
+    }
+    if 10 <= w / 16 % 16 {
+        return false;
+    }
+    w % 16 < 10
 }
 
 // No digit of the five words is above 9, and no spare one set. The first word has three spare digits, so it is below 10 as a whole.
 fn all_digits(a: u16, b: u16, c: u16, d: u16, e: u16) -> bool
     ensures { result ≡ decimal (unpacked 16 4 (a ∷ b ∷ c ∷ d ∷ e ∷ [])) }
 {
-    (a < 10) & (sixteen_digits(joined(b, c, d, e)) & (e % 16 == 0))
+    if 10 <= a {
+        return false;
+    }
+    if !four_digits(b) {
+        return false;
+    }
+    if !four_digits(c) {
+        return false;
+    }
+    if !four_digits(d) {
+        return false;
+    }
+    if !four_digits(e) {
+        return false;
+    }
+    e % 16 == 0
 }
 
-// The ranges of day, hour, minute and second. Where no digit is above 9, digits of four bits stand in the order of the numbers that they write.
-fn fields_fit(day: u16, hour: u16, minute: u16, second: u16) -> bool
-    ensures { result ≡ packed_in_range day hour minute second }
+fn is_in_range(day: u16, hour: u16, minute: u16, second: u16) -> bool
+    ensures { result ≡ in_range day hour minute second }
 {
-    (1 <= day) & ((day <= 0x366) & ((hour <= 0x23) & ((minute <= 0x59) & (second <= 0x59))))
-}
-
-// The number that five words are refused with: 17 for a digit, and only then 11 for a range.
-fn refusal(a: u16, b: u16, c: u16, d: u16, e: u16) -> u8
-    ensures { result ≡ digits_refusal (unpacked 16 4 (a ∷ b ∷ c ∷ d ∷ e ∷ [])) }
-{
-    if !all_digits(a, b, c, d, e) {
-        return numbers::BAD_DIGIT;
+    if day < 1 {
+        return false;
     }
-    if !fields_fit(a % 16 * 256 + b / 256, b % 256, c / 256, c % 256) {
-        return numbers::OUTSIDE_TIME;
+    if 366 < day {
+        return false;
     }
-    numbers::DONE
+    if 23 < hour {
+        return false;
+    }
+    if 59 < minute {
+        return false;
+    }
+    second <= 59
 }
 
 // The seven digits of the fraction, in the last two words.
@@ -187,18 +201,28 @@ fn fraction(d: u16, e: u16) -> u32
 fn read_five(a: u16, b: u16, c: u16, d: u16, e: u16) -> TimeRead
     ensures { result ≡ read_words (a ∷ b ∷ c ∷ d ∷ e ∷ []) }
 {
-    let number = refusal(a, b, c, d, e);
-    if number != numbers::DONE {
+    if !all_digits(a, b, c, d, e) {
         return TimeRead {
-            number: number,
+            number: numbers::BAD_DIGIT,
+            day: 0,
+            tick: Ticks { ticks: 0 },
+        };
+    }
+    let day = a % 16 * 100 + two(b / 256);
+    let hour = two(b % 256);
+    let minute = two(c / 256);
+    let second = two(c % 256);
+    if !is_in_range(day, hour, minute, second) {
+        return TimeRead {
+            number: numbers::OUTSIDE_TIME,
             day: 0,
             tick: Ticks { ticks: 0 },
         };
     }
     TimeRead {
         number: numbers::DONE,
-        day: a % 16 * 100 + two(b / 256),
-        tick: tick_at(two(b % 256), two(c / 256), two(c % 256), fraction(d, e)),
+        day: day,
+        tick: tick_at(hour, minute, second, fraction(d, e)),
     }
 }
 
@@ -208,11 +232,4 @@ pub fn read_words(words: [u16; 5]) -> TimeRead
     ensures { result ≡ read_words words }
 {
     read_five(words[0], words[1], words[2], words[3], words[4])
-}
-
-// Whether words read as a time. They are tested, and nothing is decoded.
-pub fn words_fit(words: [u16; 5]) -> bool
-    ensures { result ≡ eqb (read_words words).number 0 }
-{
-    refusal(words[0], words[1], words[2], words[3], words[4]) == numbers::DONE
 }

@@ -1,7 +1,7 @@
--- A wait of a lawful card is its clock's; and for the crates above, what a wait that is not refused answers, and two waits in a row. Assumes
+-- A wait of a card that is lawful elsewhere is its clock's; and for the crates above, what a wait that is not refused answers, and two waits in a row. Assumes
 -- nothing.
 use Prim.Native.Nat.{ℕ, ◌+◌}
-use mathlib.Core.Path.{◌≡◌, refl, sym, ap, ◌∙◌}
+use mathlib.Core.Path.{◌≡◌, refl, ap, ◌∙◌}
 use mathlib.Core.Bool.{Bool, true, false, not}
 use mathlib.Core.List.{List, [], ◌∷◌, ◌++◌}
 use native.Mathlib.Omega.{arith}
@@ -23,9 +23,14 @@ use Rattle.card.specs.declared.card.Card.{Card}
 use Rattle.card.specs.declared.waiting.WaitedCard.{WaitedCard}
 use Rattle.parts.specs.Interrupts.{with_pending}
 use Rattle.card.specs.Cards.{with_clock, with_interrupts}
-use Rattle.card.specs.Lawful.{lawful}
-use Rattle.card.specs.Waiting.{pending_after, card_after, wait_refusal, waited, wait, row_waited, pass_on, row_on}
-use Rattle.card.proofs.lawful.Laws.{parts}
+use Rattle.card.specs.Lawful.{rest_lawful, lawful}
+use Rattle.card.specs.Waiting.{pending_after, card_after, wait_refusal, waited, wait, row_waited}
+use Rattle.card.proofs.lawful.Laws.{rest-lawful, rest-unlawful, parts}
+
+pub unlawful : (c : Card) (n : ℕ) (row : List ℕ) → rest_lawful c ≡ false
+    → (◌≡◌ {A = WaitedCard} (record { card = c; waited = waited 18 0 0 }) (wait c n (length row))) × (row ≡ row_waited c n row)
+unfolding wait row_waited wait_refusal
+unlawful c n row e = let l = rest-unlawful c e in (simp l, simp l)
 
 -- the card with what its clock left, and what it answers
 abbrev waited_by : Card → Passed → WaitedCard
@@ -35,13 +40,13 @@ waited_by c p =
       waited = record { number = p.number; passed = p.passed; written = p.written };
     }
 
-module _ (c : Card) (n : ℕ) (row : List ℕ) (e : lawful c ≡ true) where
+module _ (c : Card) (n : ℕ) (row : List ℕ) (e : rest_lawful c ≡ true) where
   abbrev refusal : ℕ
   refusal = given (18 if not (clock_lawful c.clock) ∷ wait_lines c.clock n (length row))
 
   same : wait_refusal c n (length row) ≡ refusal
   unfolding wait_refusal
-  same = ap (λ (t : Bool). given (18 if not t ∷ wait_lines c.clock n (length row))) (e ∙ sym (parts c e).clock)
+  same = ap (λ (t : Bool). given (18 if not t ∷ wait_lines c.clock n (length row))) (rest-lawful c e)
 
   by_number : (t : Bool) → eqb refusal 0 ≡ t → (waited_by c (pass c.clock n (length row)) ≡ wait c n (length row)) × (row_passed c.clock n row ≡ row_waited c n row)
   unfolding wait row_waited card_after
@@ -52,22 +57,9 @@ module _ (c : Card) (n : ℕ) (row : List ℕ) (e : lawful c ≡ true) where
       let g : refusal ≡ 0 → ⊥ = eqb-false refusal 0 z in
       (ap (waited_by c) (pass-not c.clock n (length row) g) ∙ ap (λ (i : Interrupts). record { card = with_interrupts c i; waited = waited refusal 0 0 }) (none-raised c.interrupts) ∙ simp (same, z), row-not c.clock n row g ∙ simp (same, z))
 
--- a card that is not lawful stays
-unlawful : (c : Card) (n : ℕ) (row : List ℕ) → lawful c ≡ false
-    → (waited_by c (record { clock = c.clock; number = 18; passed = record { ticks = 0 }; written = 0; fell = record { periodic = false; strobe = false; second = false } }) ≡ wait c n (length row))
-    × (row ≡ row_waited c n row)
-unfolding wait row_waited wait_refusal
-unlawful c n row e = (simp e (ap (λ (i : Interrupts). record { card = with_interrupts c i; waited = waited 18 0 0 }) (none-raised c.interrupts)), simp e)
-
--- lawful or not
-by_lawful : (c : Card) (n : ℕ) (row : List ℕ) (t : Bool) → lawful c ≡ t → (waited_by c (pass_on c n (length row)) ≡ wait c n (length row)) × (row_on c n row ≡ row_waited c n row)
-unfolding pass_on row_on
-by_lawful c n row true e = rw e (by_number c n row e (eqb (refusal c n row e) 0) refl)
-by_lawful c n row false e = rw e (unlawful c n row e)
-
-pub passes : (c : Card) (n : ℕ) (row : List ℕ) (p : Passed) (after : List ℕ) → p ≡ pass_on c n (length row) → after ≡ row_on c n row
-    → (waited_by c p ≡ wait c n (length row)) × (after ≡ row_waited c n row)
-passes c n row p after h k = let b = by_lawful c n row (lawful c) refl in (ap (waited_by c) h ∙ b.0, k ∙ b.1)
+  pub passes : (p : Passed) (after : List ℕ) → p ≡ pass c.clock n (length row) → after ≡ row_passed c.clock n row
+      → (waited_by c p ≡ wait c n (length row)) × (after ≡ row_waited c n row)
+  passes p after h k = let b = by_number (eqb refusal 0) refl in (ap (waited_by c) h ∙ b.0, k ∙ b.1)
 
 -- ---- for the laws above: a wait that is not refused
 

@@ -3,7 +3,7 @@
 use Prim.Native.Nat.{ℕ, ◌+◌, ◌-◌, ◌*◌, ◌/◌, ◌%◌, ◌≤◌, ◌<◌}
 use mathlib.Core.Path.{◌≡◌, refl, sym, ◌∙◌, ap}
 use mathlib.Core.Bool.{Bool, true, false, ◌&&◌}
-use mathlib.Core.Logic.{inl, inr, ⊎_elim, ◌↔◌}
+use mathlib.Core.Logic.{⊎_elim, ◌↔◌}
 use native.Mathlib.Nat.{mod-lt, mod-eq_of_lt, mod-add-mod, mod-eq-sub-mod, mod-mod_of_dvd, dvd_of_mod-eq-zero, add_assoc, mul-le-mul}
 use native.Mathlib.Omega.{arith}
 use borrow.Author.Tests.{eq-eqb, ne_eqb, eqb-true, leb-true, ltb-true}
@@ -18,7 +18,7 @@ use Rattle.clock.specs.declared.clock.Periodic.TheVariants as Periodic
 use Rattle.clock.specs.declared.time.Time.{Time}
 use Rattle.clock.specs.Time.{later}
 use Rattle.clock.specs.Falling.{second_falls, strobe_falls, periodic_falls, strobe_lawful, periodic_lawful}
-use Rattle.clock.specs.Sources.{Gap, reach, NextFall, Rhythm, Beating, Strobing, second_on, strobe_on}
+use Rattle.clock.specs.Sources.{Gap, NextFall, Rhythm, second_on, strobe_on}
 use Rattle.clock.proofs.time.Laws.{Proper, later-tick}
 
 -- ---- remainders
@@ -61,22 +61,6 @@ module _ (x p r : ℕ) (h : r < p) where
     none = λ j a b f. ⊎_elim (λ l. omega (arith, small j l)) (λ g. omega (arith, large j g (omega arith))) (lt-or-le (x % p + j) p);
   }
 
--- of a number below p
-pub near-low : (x p r : ℕ) → x < p → r < p → x < r → Gap x p r (r - x)
-near-low x p r l h k = let e : x % p ≡ x = mod-eq_of_lt l in rw e at (gap-low x p r h (rw e k))
-
-pub near-high : (x p r : ℕ) → x < p → r < p → r ≤ x → Gap x p r (p - x + r)
-near-high x p r l h k = let e : x % p ≡ x = mod-eq_of_lt l in rw e at (gap-high x p r h (rw e k))
-
--- only the remainder of the number counts
-gap-mod : (x p r d : ℕ) → Gap (x % p) p r d → Gap x p r d
-gap-mod x p r d g = record {
-  above = g.above;
-  within = g.within;
-  hit = sym (mod-add-mod x p d) ∙ g.hit;
-  none = λ j a b e. g.none j a b (mod-add-mod x p j ∙ e);
-}
-
 -- a second goes into a day
 second-of-day : (x : ℕ) → x % 864000000000 % 10000000 ≡ x % 10000000
 second-of-day x = mod-mod_of_dvd 10000000 x (dvd_of_mod-eq-zero 10000000 {n = 864000000000} refl)
@@ -91,29 +75,27 @@ module _ (test : ℕ → Bool) (x p r : ℕ) (on : (k : ℕ) → test k ≡ eqb 
     none = λ k l m. on k ∙ ne_eqb _ _ (λ e. g.none (k - a) (omega arith) (omega arith) (ap (λ (z : ℕ). z % p) (omega arith) ∙ e));
   }
 
-  pub rhythm : (d : ℕ) → r < p → p ≤ ticks_of_day → Gap x p r d → Rhythm test (record { next = d; period = p })
+  pub rhythm : (d : ℕ) → r < p → p ≤ ticks_of_day → Gap x p r d → Rhythm test 0 (record { next = d; period = p })
   rhythm d h l g = record {
-    first = record {
+    next = record {
       above = g.above;
       hit = λ m. on d ∙ eq-eqb _ _ g.hit;
       none = λ k m n. on k ∙ ne_eqb _ _ (g.none k m n);
     };
     again = λ k e. falls-next k p (gap-again (x + k) p r h (eqb-true _ _ (sym (on k) ∙ e)));
-    within = g.within;
-    small = omega arith;
+    small = l;
   }
 
-true-false : (◌≡◌ {A = Bool} true false) → ⊥
-true-false e = let z : ◌≡◌ {A = ℕ} 0 1 = cc in omega arith
-
 -- what never falls
-never : (test : ℕ → Bool) → ((k : ℕ) → test k ≡ false) → Rhythm test (record { next = 1728000000001; period = 1728000000001 })
+never : (test : ℕ → Bool) → ((k : ℕ) → test k ≡ false) → Rhythm test 0 (record { next = 864000000001; period = 864000000000 })
 never test off = record {
-  first = record { above = omega arith; hit = λ h. absurd (omega arith); none = λ k l m. off k };
+  next = record { above = omega arith; hit = λ h. absurd (omega arith); none = λ k l m. off k };
   again = λ k e. absurd (true-false (sym e ∙ off k));
-  within = omega arith;
   small = omega arith;
 }
+  where
+    true-false : (◌≡◌ {A = Bool} true false) → ⊥
+    true-false e = let z : ◌≡◌ {A = ℕ} 0 1 = cc in omega arith
 
 -- ---- the three sources
 
@@ -122,36 +104,26 @@ module _ (t : Time) (h : Proper t) where
   in-second : (k : ℕ) → (later k t).tick.ticks % 10000000 ≡ (t.tick.ticks + k) % 10000000
   in-second k = ap (λ (x : ℕ). x % 10000000) (later-tick k t h) ∙ second-of-day (t.tick.ticks + k)
 
-  pub second-rhythm : (d : ℕ) → Gap (t.tick.ticks % 10000000) 10000000 0 d → Beating (second_on t) (record { next = d; period = 10000000 })
+  pub second-rhythm : (d : ℕ) → Gap t.tick.ticks 10000000 0 d → Rhythm (second_on t) 0 (record { next = d; period = 10000000 })
   unfolding second_on second_falls
-  second-rhythm d g = record {
-    rhythm = rhythm _ t.tick.ticks 10000000 0 (λ k. ap (λ (x : ℕ). eqb x 0) (in-second k)) d (omega arith) (omega arith) (gap-mod _ _ _ _ g);
-    each = refl;
-  }
+  second-rhythm d g =
+      rhythm _ t.tick.ticks 10000000 0 (λ k. ap (λ (x : ℕ). eqb x 0) (in-second k)) d (omega arith) (omega arith) g
 
-  pub strobe-off : (s : Strobe) → s ≡ Strobe.Off → Strobing (strobe_on s t) (record { next = 1728000000001; period = 1728000000001 })
+  pub strobe-off : (s : Strobe) → s ≡ Strobe.Off → Rhythm (strobe_on s t) 0 (record { next = 864000000001; period = 864000000000 })
   unfolding strobe_on strobe_falls
-  strobe-off s e = rw e (record { rhythm = never _ (λ k. refl); kind = inr (omega arith) })
+  strobe-off s e = rw e (never _ (λ k. refl))
 
   pub strobe-daily : (s : Strobe) (ms : Milliseconds) (d : ℕ) → s ≡ Strobe.Daily ms → ms.ms < 86400000 → Gap t.tick.ticks 864000000000 (ms.ms * 10000) d
-      → Strobing (strobe_on s t) (record { next = d; period = 864000000000 })
+      → Rhythm (strobe_on s t) 0 (record { next = d; period = 864000000000 })
   unfolding strobe_on strobe_falls
   strobe-daily s ms d e l g =
-      rw e
-      (record {
-        rhythm = rhythm _ t.tick.ticks 864000000000 (ms.ms * 10000) (λ k. ap (λ (z : ℕ). eqb z (ms.ms * 10000)) (later-tick k t h)) d (omega arith) (omega arith) g;
-        kind = inr (omega arith);
-      })
+      rw e (rhythm _ t.tick.ticks 864000000000 (ms.ms * 10000) (λ k. ap (λ (z : ℕ). eqb z (ms.ms * 10000)) (later-tick k t h)) d (omega arith) (omega arith) g)
 
-  pub strobe-each : (s : Strobe) (ms : Milliseconds) (d : ℕ) → s ≡ Strobe.EachSecond ms → ms.ms < 1000 → Gap (t.tick.ticks % 10000000) 10000000 (ms.ms * 10000) d
-      → Strobing (strobe_on s t) (record { next = d; period = 10000000 })
+  pub strobe-each : (s : Strobe) (ms : Milliseconds) (d : ℕ) → s ≡ Strobe.EachSecond ms → ms.ms < 1000 → Gap t.tick.ticks 10000000 (ms.ms * 10000) d
+      → Rhythm (strobe_on s t) 0 (record { next = d; period = 10000000 })
   unfolding strobe_on strobe_falls
   strobe-each s ms d e l g =
-      rw e
-      (record {
-        rhythm = rhythm _ t.tick.ticks 10000000 (ms.ms * 10000) (λ k. ap (λ (x : ℕ). eqb x (ms.ms * 10000)) (in-second k)) d (omega arith) (omega arith) (gap-mod _ _ _ _ g);
-        kind = inl refl;
-      })
+      rw e (rhythm _ t.tick.ticks 10000000 (ms.ms * 10000) (λ k. ap (λ (x : ℕ). eqb x (ms.ms * 10000)) (in-second k)) d (omega arith) (omega arith) g)
 
 pub daily-range : (s : Strobe) (ms : Milliseconds) → s ≡ Strobe.Daily ms → strobe_lawful s ≡ true → ms.ms < 86400000
 unfolding strobe_lawful
@@ -175,31 +147,14 @@ divides p n1 n2 count e l h k =
     let f : 2 * 2 ≤ n1 * n2 = mul-le-mul (leb-true 2 n1 a.0) (leb-true 2 n2 b.0) in
     record { low = omega (arith, f); high = mul-le-mul h k; below = ltb-true _ _ b.1 }
 
-pub periodic-off : (p : Periodic) → p ≡ Periodic.Off → Rhythm (periodic_falls p) (record { next = 1728000000001; period = 1728000000001 })
+pub periodic-off : (p : Periodic) → p ≡ Periodic.Off → Rhythm (periodic_falls p) 0 (record { next = 864000000001; period = 864000000000 })
 unfolding periodic_falls
 periodic-off p e = rw e (never _ (λ k. refl))
 
-pub periodic-every : (p : Periodic) (n1 n2 count : ℕ) → p ≡ Periodic.Every n1 n2 count → count < n1 * n2 → n1 * n2 ≤ ticks_of_day
-    → Rhythm (periodic_falls p) (record { next = n1 * n2 - count; period = n1 * n2 })
+pub periodic-every : (p : Periodic) (n1 n2 count d : ℕ) → p ≡ Periodic.Every n1 n2 count → 0 < n1 * n2 → n1 * n2 ≤ ticks_of_day → Gap count (n1 * n2) 0 d
+    → Rhythm (periodic_falls p) 0 (record { next = d; period = n1 * n2 })
 unfolding periodic_falls
-periodic-every p n1 n2 count e h l =
-    let d : n1 * n2 - count + 0 ≡ n1 * n2 - count = omega arith in
-    rw e (rhythm _ count (n1 * n2) 0 (λ k. refl) (n1 * n2 - count) (omega arith) l (rw d at (near-high count (n1 * n2) 0 h (omega arith) (omega arith))))
-
--- the count so many ticks later, by the next fall after them
-pub count-by-next : (p : Periodic) (n1 n2 count ticks next : ℕ) → p ≡ Periodic.Every n1 n2 count → 0 < n1 * n2 → ticks + n1 * n2 ≤ reach
-    → NextFall (periodic_falls p) ticks next → (next - ticks ≤ n1 * n2) × (n1 * n2 - (next - ticks) ≡ (count + ticks) % (n1 * n2))
-unfolding periodic_falls
-count-by-next p n1 n2 count ticks next e h l f =
-    let g = gap-high (count + ticks) (n1 * n2) 0 h (omega arith) in
-    let m : (count + ticks) % (n1 * n2) < n1 * n2 = mod-lt (count + ticks) h in
-    let d : ℕ = n1 * n2 - (count + ticks) % (n1 * n2) + 0 in
-    let hit : (count + (ticks + d)) % (n1 * n2) ≡ 0 = ap (λ (z : ℕ). z % (n1 * n2)) (sym (add_assoc count ticks d)) ∙ g.hit in
-    let low : next ≤ ticks + d = ⊎_elim (λ b. absurd (true-false (sym (eq-eqb _ _ hit) ∙ rw e at (f.none (ticks + d) (omega (arith, g.above)) b)))) (λ b. b) (lt-or-le (ticks + d) next) in
-    let on : (count + next) % (n1 * n2) ≡ 0 = eqb-true _ _ (rw e at (f.hit (omega (arith, g.within)))) in
-    let high : ticks + d ≤ next =
-    ⊎_elim (λ b. absurd (g.none (next - ticks) (omega (arith, f.above)) (omega (arith, f.above)) (ap (λ (z : ℕ). z % (n1 * n2)) (omega (arith, f.above)) ∙ on))) (λ b. b) (lt-or-le next (ticks + d)) in
-    (omega arith, omega arith)
+periodic-every p n1 n2 count d e h l g = rw e (rhythm _ count (n1 * n2) 0 (λ k. refl) d h l g)
 
 -- THE STROBE FALLS ON THE FIRST TICK OF ITS MILLISECOND
 

@@ -18,8 +18,7 @@ use Rattle.clock.specs.declared.waiting.Passed.{Passed}
 use Rattle.clock.specs.Time.{later}
 use Rattle.clock.specs.Clocks.{clock_lawful}
 use Rattle.clock.specs.Waiting.{listed, passed, row_listed, source_listed, fell, clock_later, wait_lines, pass_refusal, pass, row_passed}
-use Rattle.clock.specs.Falling.{periodic_falls}
-use Rattle.clock.specs.Sources.{NextFall, Lists}
+use Rattle.clock.specs.Sources.{listing}
 use Rattle.clock.proofs.waiting.Laws.{passes}
 
 -- what holds of a wait that is not refused
@@ -55,11 +54,11 @@ may-list c n room e =
     let a = accepted c n room k.1 in
     (k.0, a.ticks, a.places)
 
-pub may-move : (c : Clock) (n room : ℕ) (w : Listed) → pass_refusal c n room ≡ 0 → Lists c n room w
-    → (clock_lawful c ≡ true) × (w.passed ≤ ticks_of_day) × NextFall (periodic_falls c.periodic) w.passed w.next
+pub may-move : (c : Clock) (n room : ℕ) (w : Listed) → pass_refusal c n room ≡ 0 → w ≡ listing c n room → (clock_lawful c ≡ true) × (w.passed ≤ ticks_of_day)
+unfolding listing
 may-move c n room w e l =
     let m = may-list c n room e in
-    (m.0, le_trans (rw l.passed (passes c n room m.2).0) m.1, l.next)
+    (m.0, le_trans (rw l (passes c n room m.2).0) m.1)
 
 pub refused : (c : Clock) (n r : ℕ) (row : List ℕ) → r ≡ pass_refusal c n (length row) → (r ≡ 0 → ⊥)
     → (◌≡◌ {A = Passed} (record { clock = c; number = r; passed = record { ticks = 0 }; written = 0; fell = fell [] }) (pass c n (length row))) × (row ≡ row_passed c n row)
@@ -68,12 +67,12 @@ refused c n r row e h =
     let x : eqb (pass_refusal c n (length row)) 0 ≡ false = ne_eqb _ _ (λ z. h (e ∙ z)) in
     (simp x (ap (λ (k : ℕ). record { clock = c; number = k; passed = record { ticks = 0 }; written = 0; fell = fell [] }) e), simp x)
 
-pub pass-answers : (c : Clock) (n : ℕ) (row₀ row₁ : List ℕ) (w : Listed) (d : Clock) → pass_refusal c n (length row₀) ≡ 0 → Lists c n (length row₀) w → row₁ ≡ row_listed c n row₀ → d ≡ clock_later w.passed c
+pub pass-answers : (c : Clock) (n : ℕ) (row₀ row₁ : List ℕ) (w : Listed) (d : Clock) → pass_refusal c n (length row₀) ≡ 0 → w ≡ listing c n (length row₀) → row₁ ≡ row_listed c n row₀ → d ≡ clock_later w.passed c
     → (◌≡◌ {A = Passed} (record { clock = d; number = 0; passed = record { ticks = w.passed }; written = w.written; fell = w.fell }) (pass c n (length row₀))) × (row₁ ≡ row_passed c n row₀)
-unfolding pass row_passed
+unfolding pass row_passed listing
 pass-answers c n row₀ row₁ w d e l r k =
     let x : eqb (pass_refusal c n (length row₀)) 0 ≡ true = eq-eqb _ _ e in
-    (simp x (rw (k, l.passed, l.written, l.fell)), simp x r)
+    (simp x (rw (k, l)), simp x r)
 
 -- ---- for the calls above: what a wait answers, by its table
 

@@ -13,10 +13,11 @@ use Rattle.wire.specs.Time.{ticks_of_day}
 use Rattle.wire.proofs.digits.Laws.{lt-or-le, or_assoc}
 use Rattle.clock.specs.declared.clock.Clock.{Clock}
 use Rattle.clock.specs.declared.falling.Sources.{Sources}
+use Rattle.clock.specs.declared.waiting.Listed.{Listed}
 use Rattle.clock.specs.Time.{later}
 use Rattle.clock.specs.Falling.{second_falls, strobe_falls, periodic_falls, falls}
 use Rattle.clock.specs.Waiting.{record_of, records, listed, row_listed, moved_on, source_listed, fell}
-use Rattle.clock.specs.Sources.{NextFall, Ready, second_on, strobe_on, within, Lists}
+use Rattle.clock.specs.Sources.{NextFall, Ready, second_on, strobe_on, within, listing}
 use Rattle.clock.proofs.waiting.Window.{Filled}
 
 -- ---- which sources a list has
@@ -97,20 +98,19 @@ module _ (c : Clock) where
   seconds k = second_falls (later k c.time).tick.ticks
 
   -- the sources whose first fall is within p ticks are those of the records of p ticks
-  pub fell-within : (first : Sources) (p : ℕ) → Ready c first → p ≤ ticks_of_day → fell (records c p) ≡ within first p
+  pub fell-within : (first : Sources) (p : ℕ) → Ready c 0 first → p ≤ ticks_of_day → fell (records c p) ≡ within first p
   unfolding falls second_on strobe_on
   fell-within first p h l =
       rw (
-        heard c 1 first.periodic.next periodic_on (λ k. has-periodic k (periodic_on k) (strobed k) (seconds k)) h.periodic.first p l,
-        heard c 2 first.strobe.next strobed (λ k. has-strobe k (periodic_on k) (strobed k) (seconds k)) h.strobe.rhythm.first p l,
-        heard c 4 first.second.next seconds (λ k. has-second k (periodic_on k) (strobed k) (seconds k)) h.second.rhythm.first p l,
+        heard c 1 first.periodic.next periodic_on (λ k. has-periodic k (periodic_on k) (strobed k) (seconds k)) h.periodic.next p l,
+        heard c 2 first.strobe.next strobed (λ k. has-strobe k (periodic_on k) (strobed k) (seconds k)) h.strobe.next p l,
+        heard c 4 first.second.next seconds (λ k. has-second k (periodic_on k) (strobed k) (seconds k)) h.second.next p l,
       )
 
 -- what a filled row comes to
-pub told : (c : Clock) (first : Sources) (n p i next : ℕ) (row₀ row : List ℕ) → Ready c first → n ≤ ticks_of_day → Filled c n row₀ row p i → NextFall (periodic_falls c.periodic) p next
-    → Lists c n (length row₀) (record { passed = p; written = i; fell = within first p; next = next }) × (row ≡ row_listed c n row₀)
-told c first n p i next row₀ row r d f h =
-    let e : fell (records c p) ≡ within first p = fell-within c first p r (omega (arith, f.within)) in (
-      record { passed = sym f.passed; written = rw f.listed (sym f.count); fell = rw f.listed (sym e); next = h },
-      rw (f.listed, f.count) f.filled,
-    )
+pub told : (c : Clock) (first : Sources) (n p i : ℕ) (row₀ row : List ℕ) → Ready c 0 first → n ≤ ticks_of_day → Filled c n row₀ row p i
+    → (◌≡◌ {A = Listed} (record { passed = p; written = i; fell = within first p }) (listing c n (length row₀))) × (row ≡ row_listed c n row₀)
+unfolding listing
+told c first n p i row₀ row r d f =
+    let e : fell (records c p) ≡ within first p = fell-within c first p r (omega (arith, f.within)) in
+    (rw (f.passed, f.listed, f.count, e), rw (f.listed, f.count) f.filled)

@@ -1,23 +1,27 @@
--- The records of a window: nothing falls between, so the list stays; the next fall adds one record; and a row that holds the records up to a tick is filled if nothing more falls,
--- or if it is full. Assumes nothing.
-use Prim.Native.Nat.{ℕ, zero, suc, pred, ◌+◌, ◌-◌, ◌*◌, ◌/◌, ◌≤◌, ◌<◌}
+-- From one fall to the next: the least of three next falls is the next tick on which anything falls, so filling a row with them lists the
+-- records of the window. Assumes nothing.
+use Prim.Native.Nat.{ℕ, zero, suc, pred, ◌+◌, ◌-◌, ◌*◌, ◌/◌, ◌≤◌, ◌<◌, zero-le, min}
 use mathlib.Core.Path.{◌≡◌, refl, sym, ◌∙◌, ap}
 use mathlib.Core.Bool.{Bool, true, false}
 use mathlib.Core.List.{List, [], ◌∷◌, ◌++◌, append_assoc, append-nil}
-use mathlib.Core.Logic.{⊎_elim}
+use mathlib.Core.Logic.{◌⊎◌, inl, inr, ⊎_elim}
 use native.Mathlib.Nat.{add-zero, add-suc}
+use native.Mathlib.Numerals.{add-one}
 use native.Mathlib.Omega.{arith}
-use borrow.Author.Tests.{le-leb, lt-leb}
-use lib.ListN.{length, get_or, take, drop, length-append, get_or-append}
-use lib.Seq.{take_at, take_all}
+use borrow.Author.Tests.{eq-eqb, ne_eqb, le-leb, lt-leb}
+use lib.Dec.{eqb}
+use lib.ListN.{length, get_or, take, drop, set, length-append, length-set, get_or-append}
+use lib.Seq.{take_at, take_all, set_at, drop-cons, get_or_at}
 use Rattle.wire.specs.Digits.{pick}
+use Rattle.wire.specs.Time.{ticks_of_day}
 use Rattle.wire.proofs.digits.Laws.{lt-or-le}
 use Rattle.clock.specs.declared.clock.Clock.{Clock}
+use Rattle.clock.specs.declared.falling.Source.{Source}
+use Rattle.clock.specs.declared.falling.Sources.{Sources}
 use Rattle.clock.specs.Time.{later}
 use Rattle.clock.specs.Falling.{second_falls, strobe_falls, periodic_falls, falls}
 use Rattle.clock.specs.Waiting.{record_of, records, listed, passed}
-use Rattle.clock.specs.Sources.{reach}
-use Rattle.clock.specs.Runs.{First, Held}
+use Rattle.clock.specs.Sources.{Rhythm, Ready, second_on, strobe_on, least_of, marks, past_of, all_past, Brief}
 
 -- ---- the records, from one tick on which anything falls to the next
 
@@ -67,12 +71,6 @@ one_more c a (suc f) l h z =
     ap (λ (rs : List ℕ). rs ++ record_of (suc f) (falls c (suc f))) (none-fall c a f (omega arith) (λ k p q. h k p (omega arith)))
     ∙ ap (λ (rs : List ℕ). records c a ++ rs) (record-one (suc f) (falls c (suc f)) z)
 
--- which is to say: the next record is added
-pub first_more : (c : Clock) (a v : ℕ) → First (falls c) a v → v / 8 ≤ reach → records c (v / 8) ≡ records c a ++ (v ∷ [])
-first_more c a v u l =
-    let e : 8 * (v / 8) + falls c (v / 8) ≡ v = rw (u.hit l) (omega arith) in
-    one_more c a (v / 8) u.above u.none (rw (u.hit l) u.some) ∙ ap (λ (x : ℕ). records c a ++ (x ∷ [])) e
-
 at_most : (t : Bool) (n : ℕ) → pick t n 0 ≤ n
 at_most true n = omega arith
 at_most false n = omega arith
@@ -82,6 +80,123 @@ unfolding falls
 falls_below c k =
     let tick : ℕ = (later k c.time).tick.ticks in
     omega (arith, at_most (periodic_falls c.periodic k) 1, at_most (strobe_falls c.strobe tick) 2, at_most (second_falls tick) 4)
+
+-- ---- the least of three next falls
+
+module _ (test : ℕ → Bool) (a m : ℕ) (s : Source) (h : Rhythm test a s) (l : a < m) (g : m ≤ s.next) (d : m ≤ ticks_of_day) where
+  -- a source falls there exactly if that is its next fall
+  marked : test m ≡ eqb s.next m
+  marked =
+      ⊎_elim
+      (λ n. h.next.none m l n ∙ sym (ne_eqb s.next m (λ e. omega arith)))
+      (λ n. let e : s.next ≡ m = omega arith in ap test (sym e) ∙ h.next.hit (omega arith) ∙ sym (eq-eqb _ _ e))
+      (lt-or-le m s.next)
+
+  past-rhythm : Rhythm test m (past_of s m)
+  unfolding past_of
+  past-rhythm =
+      ⊎_elim
+      (λ n. rw (ne_eqb s.next m (λ e. omega arith))
+      (record { next = record { above = n; hit = h.next.hit; none = λ k p q. h.next.none k (omega arith) q }; again = h.again; small = h.small }))
+      (λ n. let e : s.next ≡ m = omega arith in
+      rw (eq-eqb s.next m e) (record { next = h.again m (ap test (sym e) ∙ h.next.hit (omega arith)); again = h.again; small = h.small }))
+      (lt-or-le m s.next)
+
+least-one : (a b c : ℕ) → (a ≡ min (min a b) c) ⊎ ((b ≡ min (min a b) c) ⊎ (c ≡ min (min a b) c))
+least-one a b c =
+    ⊎_elim
+    (λ p. ⊎_elim (λ q. inl (omega arith)) (λ q. inr (inr (omega arith))) (lt-or-le a c))
+    (λ p. ⊎_elim (λ q. inr (inl (omega arith))) (λ q. inr (inr (omega arith))) (lt-or-le b c))
+    (lt-or-le a b)
+
+module _ (c : Clock) (a : ℕ) (s : Sources) (h : Ready c a s) where
+  least_above : a < least_of s
+  least_above = omega (arith, h.second.next.above, h.strobe.next.above, h.periodic.next.above)
+
+  pub none_before : (k : ℕ) → a < k → k < least_of s → falls c k ≡ 0
+  unfolding falls second_on strobe_on
+  none_before k p q =
+      let x : second_falls (later k c.time).tick.ticks ≡ false = h.second.next.none k p (omega arith) in
+      let y : strobe_falls c.strobe (later k c.time).tick.ticks ≡ false = h.strobe.next.none k p (omega arith) in
+      simp (x, y, h.periodic.next.none k p (omega arith))
+
+  module _ (d : least_of s ≤ ticks_of_day) where
+    pub marks-least : falls c (least_of s) ≡ marks s (least_of s)
+    unfolding falls marks second_on strobe_on
+    marks-least =
+        let x = marked _ a (least_of s) s.second h.second least_above (omega arith) d in
+        let y = marked _ a (least_of s) s.strobe h.strobe least_above (omega arith) d in
+        let z = marked _ a (least_of s) s.periodic h.periodic least_above (omega arith) d in
+        rw (x, y, z)
+
+    pub past-ready : Ready c (least_of s) (all_past s (least_of s))
+    unfolding all_past
+    past-ready = record {
+      second = past-rhythm _ a (least_of s) s.second h.second least_above (omega arith) d;
+      strobe = past-rhythm _ a (least_of s) s.strobe h.strobe least_above (omega arith) d;
+      periodic = past-rhythm _ a (least_of s) s.periodic h.periodic least_above (omega arith) d;
+    }
+
+    pub least-falls : 0 < falls c (least_of s)
+    unfolding marks
+    least-falls =
+        rw marks-least
+        (⊎_elim (λ e. rw (eq-eqb s.second.next (least_of s) e) (omega arith))
+        (⊎_elim (λ e. rw (eq-eqb s.strobe.next (least_of s) e) (omega arith)) (λ e. rw (eq-eqb s.periodic.next (least_of s) e) (omega arith)))
+        (least-one s.second.next s.strobe.next s.periodic.next))
+
+    pub least_more : records c (least_of s) ≡ records c a ++ ((8 * least_of s + marks s (least_of s)) ∷ [])
+    least_more = one_more c a (least_of s) least_above none_before least-falls ∙ ap (λ (x : ℕ). records c a ++ ((8 * least_of s + x) ∷ [])) marks-least
+
+-- ---- the loop: a is the tick of the last record, the records up to it stand in the row, and s has what falls next
+
+pub record Held (c : Clock) (n : ℕ) (row₀ row : List ℕ) (s : Sources) (a i : ℕ) : Type 0 where
+  pub ready : Ready c a s
+  pub within : a ≤ n
+  pub room : i ≤ length row₀
+  pub same : length row ≡ length row₀
+  pub count : length (records c a) ≡ i
+  pub holds : row ≡ records c a ++ drop i row₀
+  pub last : 0 < i → get_or (records c a) (pred i) 0 / 8 ≡ a
+
+pub held_none : (c : Clock) (n : ℕ) (row : List ℕ) (s : Sources) → Ready c 0 s → Held c n row row s 0 0
+unfolding records
+held_none c n row s h = record {
+  ready = h;
+  within = zero-le;
+  room = zero-le;
+  same = refl;
+  count = refl;
+  holds = refl;
+  last = λ z. absurd (omega arith);
+}
+
+pub brief : (c : Clock) (a : ℕ) (s : Sources) → Ready c a s → Brief s
+brief c a s h = record { second = h.second.small; strobe = h.strobe.small; periodic = h.periodic.small }
+
+-- the record of the least next fall is stored
+pub held_more : (c : Clock) (n : ℕ) (row₀ row : List ℕ) (s : Sources) (a i : ℕ) → n ≤ ticks_of_day → i < length row → least_of s ≤ n
+    → Held c n row₀ row s a i → Held c n row₀ (set row i (8 * least_of s + marks s (least_of s))) (all_past s (least_of s)) (least_of s) (i + 1)
+held_more c n row₀ row s a i d l m h =
+    let v : ℕ = 8 * least_of s + marks s (least_of s) in
+    let k : least_of s ≤ ticks_of_day = omega arith in
+    let e : records c (least_of s) ≡ records c a ++ (v ∷ []) = least_more c a s h.ready k in
+    let f : falls c (least_of s) ≡ marks s (least_of s) = marks-least c a s h.ready k in
+    record {
+      ready = past-ready c a s h.ready k;
+      within = m;
+      room = omega (arith, h.same);
+      same = length-set row i v ∙ h.same;
+      count = ap length e ∙ length-append (records c a) (v ∷ []) ∙ ap (λ (k : ℕ). k + 1) h.count;
+      holds =
+          ap (λ (r : List ℕ). set r i v) (h.holds ∙ ap (λ (r : List ℕ). records c a ++ r) (drop-cons row₀ i 0 (omega (arith, h.same))))
+          ∙ set_at (records c a) (get_or row₀ i 0) (drop (suc i) row₀) v i h.count
+          ∙ rw (e, add-one, append_assoc);
+      last = λ z.
+          ap (λ (r : ℕ). r / 8)
+          (ap (λ (rs : List ℕ). get_or rs (pred (i + 1)) 0) e ∙ get_or_at (records c a) v [] 0 (pred (i + 1)) (h.count ∙ omega arith))
+          ∙ omega (arith, falls_below c (least_of s));
+    }
 
 -- ---- a filled row: the records of the first p ticks, which are all that are listed
 
@@ -93,10 +208,10 @@ pub record Filled (c : Clock) (n : ℕ) (row₀ row : List ℕ) (p i : ℕ) : Ty
   pub filled : row ≡ records c p ++ drop i row₀
 
 -- nothing more falls in the window
-pub filled-all : (c : Clock) (n : ℕ) (row₀ row : List ℕ) (a i : ℕ) → Held c n row₀ row a i → ((k : ℕ) → a < k → k ≤ n → falls c k ≡ 0) → Filled c n row₀ row n i
+pub filled-all : (c : Clock) (n : ℕ) (row₀ row : List ℕ) (s : Sources) (a i : ℕ) → Held c n row₀ row s a i → n < least_of s → Filled c n row₀ row n i
 unfolding listed passed
-filled-all c n row₀ row a i h none =
-    let e : records c n ≡ records c a = none-fall c a n h.within none in
+filled-all c n row₀ row s a i h l =
+    let e : records c n ≡ records c a = none-fall c a n h.within (λ k p q. none_before c a s h.ready k p (omega arith)) in
     let len : length (records c n) ≡ i = ap length e ∙ h.count in
     record {
       within = omega arith;
@@ -106,25 +221,17 @@ filled-all c n row₀ row a i h none =
       filled = rw e h.holds;
     }
 
--- something falls on tick m
-some-behind : (c : Clock) (a j m : ℕ) → a < m → m ≤ a + j → 0 < falls c m → 0 < length (behind c a j)
-unfolding behind
-some-behind c a zero m l h z = absurd (omega arith)
-some-behind c a (suc j) m l h z =
-    rw (length-append (behind c a j) (record_of (a + suc j) (falls c (a + suc j))))
-    (⊎_elim
-    (λ q. omega (arith, some-behind c a j m l (omega arith) z))
-    (λ q. let e : m ≡ a + suc j = omega arith in omega (arith, ap length (record-one (a + suc j) (falls c (a + suc j)) (rw e at z))))
-    (lt-or-le m (a + suc j)))
-
 -- the row is full, and more falls in the window
-pub filled-full : (c : Clock) (n : ℕ) (row₀ row : List ℕ) (a i m : ℕ) → 0 < length row₀ → Held c n row₀ row a i → i ≡ length row₀ → a < m → m ≤ n → 0 < falls c m
-    → Filled c n row₀ row a i
+pub filled-full : (c : Clock) (n : ℕ) (row₀ row : List ℕ) (s : Sources) (a i : ℕ) → 0 < length row₀ → n ≤ ticks_of_day
+    → Held c n row₀ row s a i → length row ≤ i → least_of s ≤ n → Filled c n row₀ row a i
 unfolding listed passed
-filled-full c n row₀ row a i m z h full l g more =
-    let rest : List ℕ = behind c a (n - a) in
-    let some : 0 < length rest = some-behind c a (n - a) m l (omega arith) more in
-    let e : records c n ≡ records c a ++ rest = same-records c n (a + (n - a)) (omega (arith, h.within)) ∙ split c a (n - a) in
+filled-full c n row₀ row s a i z d h f l =
+    let full : i ≡ length row₀ = omega (arith, h.room, h.same) in
+    let m : ℕ = least_of s in
+    let rest : List ℕ = (8 * m + marks s m) ∷ behind c m (n - m) in
+    let e : records c n ≡ records c a ++ rest =
+    same-records c n (m + (n - m)) (omega arith) ∙ split c m (n - m) ∙ ap (λ (rs : List ℕ). rs ++ behind c m (n - m)) (least_more c a s h.ready (omega arith))
+    ∙ append_assoc (records c a) ((8 * m + marks s m) ∷ []) (behind c m (n - m)) in
     let len : length (records c n) ≡ length (records c a) + length rest = ap length e ∙ length-append (records c a) rest in
     let at : get_or (records c n) (pred (length row₀)) 0 ≡ get_or (records c a) (pred i) 0 =
     ap (λ (rs : List ℕ). get_or rs (pred (length row₀)) 0) e ∙ get_or-append (records c a) rest 0 (pred (length row₀)) (omega (arith, h.count))

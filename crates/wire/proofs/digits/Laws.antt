@@ -233,10 +233,6 @@ module _ (b : ℕ) (p : 0 < b) where
       rw (take_at (digits b k w) (unpacked b k ws) k (digits-length k w), drop_at (digits b k w) (unpacked b k ws) k (digits-length k w), written k w (ltb-true w (b ^ k) (and_left (ltb w (b ^ k)) (below (b ^ k) ws) h)))
       (ap (λ (l : List ℕ). w ∷ l) (pack-unpacked k ws (and_right (ltb w (b ^ k)) (below (b ^ k) ws) h)))
 
--- words written side by side as digits of base b ^ k: their own digits, one word's behind the other's
-pub digits-joined : (b : ℕ) → 0 < b → (k : ℕ) (ws : List ℕ) → below (b ^ k) ws ≡ true → digits b (length ws * k) (num (b ^ k) ws) ≡ unpacked b k ws
-digits-joined b p k ws h = sym (digits-of-digits b p k (length ws) (num (b ^ k) ws)) ∙ ap (unpacked b k) (read (b ^ k) (one-le-pow k b p) ws h)
-
 pub packed-length : (b k m : ℕ) (ds : List ℕ) → length (packed b k m ds) ≡ m
 unfolding packed
 packed-length b k zero ds = refl

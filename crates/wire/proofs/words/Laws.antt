@@ -9,11 +9,11 @@ use native.Mathlib.Omega.{arith}
 use lib.Dec.{leb, ltb, eqb, lit<, lit≤, leb-suc-suc, leb-suc-zero, eqb-suc-zero}
 use lib.ListN.{length, take, drop, get_or, replicate}
 use lib.Seq.{ext_get_or}
-use borrow.Author.Tests.{lt-ltb, le-leb, ne_eqb, ltb-true, ltb-false, leb-true}
+use borrow.Author.Tests.{lt-ltb, le-leb, ltb-true, ltb-false, leb-true}
 use Rattle.wire.specs.Digits.{digits, num, below, packed, unpacked}
 use Rattle.wire.specs.Time.{ticks_of_day, hour_of, minute_of, second_of, fraction_of, tick_at, without_fraction}
 use Rattle.wire.specs.Words.{time_digits, pairs_of, words_of, words_or_zero, writable, decimal, field, day_in, hour_in, minute_in, second_in, fraction_in, tick_in, in_range, digits_refusal, read_digits, time_read, read_words}
-use Rattle.wire.proofs.digits.Laws.{and_left, and_right, and-true, below_at, below_both, below-append, below_more, digits-below, num-below, mod-div, digits-split, digits-mod-pow, digits-of-digits, digits-joined, unpacked-append, num-append, written, packed-length}
+use Rattle.wire.proofs.digits.Laws.{and_left, and_right, and_assoc, and-true, below_at, below_both, below-append, below_more, digits-below, num-below, mod-div, digits-split, digits-mod-pow, digits-of-digits, unpacked-append, num-append, written, packed-length}
 
 -- what `writable` tests
 pub writable-day : (day tick : ℕ) → writable day tick ≡ true → (1 ≤ day) × (day ≤ 366)
@@ -131,6 +131,9 @@ first_word a h false e = go (below 10 (digits 16 4 a)) refl (below 1 (take 3 (di
         let v : a / 4096 % 16 * 4096 + (a / 256 % 16 * 256 + (a / 16 % 16 * 16 + (a / 1 % 16 * 1 + 0))) ≡ a = written 16 (lit< tt) 4 a h in
         omega arith)
 
+shuffle : (a b c d e z s : Bool) → ((a && (b && (c && (d && (e && true))))) && (z && s)) ≡ ((a && z) && (b && (c && (d && (e && s)))))
+shuffle a b c d e z s = and-swap a (b && (c && (d && (e && true)))) z s ∙ simp (and_assoc, and-true)
+
 last-digit : (e : ℕ) → below 1 (drop 3 (digits 16 4 e)) ≡ eqb (e % 16) 0
 unfolding digits below
 last-digit e = rw (and-true, div-one e) (go (e % 16))
@@ -139,20 +142,21 @@ last-digit e = rw (and-true, div-one e) (go (e % 16))
     go zero = refl
     go (suc n) = leb-suc-suc (suc n) 0 ∙ leb-suc-zero n ∙ sym (eqb-suc-zero n)
 
--- what the five words are tested for: the first by itself, the others together
-pub decimal-words : (a b c d e : ℕ) → a < 65536 →
-    decimal (unpacked 16 4 (a ∷ b ∷ c ∷ d ∷ e ∷ [])) ≡ (ltb a 10 && (below 10 (unpacked 16 4 (b ∷ c ∷ d ∷ e ∷ [])) && eqb (e % 16) 0))
-unfolding decimal unpacked digits
-decimal-words a b c d e h =
-    let rest : List ℕ = unpacked 16 4 (b ∷ c ∷ d ∷ e ∷ []) in
-    ap (λ (t : Bool). t && (below 1 (take 3 (digits 16 4 a)) && below 1 (drop 3 (digits 16 4 e)))) (below_both 10 (digits 16 4 a) rest)
-    ∙ and-swap (below 10 (digits 16 4 a)) (below 10 rest) (below 1 (take 3 (digits 16 4 a))) (below 1 (drop 3 (digits 16 4 e)))
-    ∙ ap₂ (λ (s t : Bool). s && (below 10 rest && t)) (first_word a h (ltb a 10) refl) (last-digit e)
+apart : (a b c d e : ℕ) →
+    below 10 (unpacked 16 4 (a ∷ b ∷ c ∷ d ∷ e ∷ []))
+    ≡ (below 10 (digits 16 4 a) && (below 10 (digits 16 4 b) && (below 10 (digits 16 4 c) && (below 10 (digits 16 4 d) && (below 10 (digits 16 4 e) && true)))))
+unfolding unpacked below
+apart a b c d e = simp below_both
 
--- the digits of four words in one
-pub joined-digits : (b c d e : ℕ) → b < 65536 → c < 65536 → d < 65536 → e < 65536 → digits 16 16 (num 65536 (b ∷ c ∷ d ∷ e ∷ [])) ≡ unpacked 16 4 (b ∷ c ∷ d ∷ e ∷ [])
-unfolding below
-joined-digits b c d e p q r s = digits-joined 16 (lit< tt) 4 (b ∷ c ∷ d ∷ e ∷ []) (simp (lt-ltb b 65536 p, lt-ltb c 65536 q, lt-ltb d 65536 r, lt-ltb e 65536 s))
+-- what the five words are tested for, word by word
+pub decimal-words : (a b c d e : ℕ) → a < 65536 →
+    decimal (unpacked 16 4 (a ∷ b ∷ c ∷ d ∷ e ∷ []))
+    ≡ (ltb a 10 && (below 10 (digits 16 4 b) && (below 10 (digits 16 4 c) && (below 10 (digits 16 4 d) && (below 10 (digits 16 4 e) && eqb (e % 16) 0)))))
+unfolding decimal unpacked digits below
+decimal-words a b c d e h =
+    ap (λ (t : Bool). t && (below 1 (take 3 (digits 16 4 a)) && below 1 (drop 3 (digits 16 4 e)))) (apart a b c d e)
+    ∙ shuffle (below 10 (digits 16 4 a)) (below 10 (digits 16 4 b)) (below 10 (digits 16 4 c)) (below 10 (digits 16 4 d)) (below 10 (digits 16 4 e)) (below 1 (take 3 (digits 16 4 a))) (below 1 (drop 3 (digits 16 4 e)))
+    ∙ ap₂ (λ (s t : Bool). s && (below 10 (digits 16 4 b) && (below 10 (digits 16 4 c) && (below 10 (digits 16 4 d) && (below 10 (digits 16 4 e) && t))))) (first_word a h (ltb a 10) refl) (last-digit e)
 
 -- an array of five words is its five elements
 pub five-of : (ws : List ℕ) → length ws ≡ 5 → ws ≡ get_or ws 0 0 ∷ get_or ws 1 0 ∷ get_or ws 2 0 ∷ get_or ws 3 0 ∷ get_or ws 4 0 ∷ []
@@ -195,6 +199,9 @@ module _ (a b c d e : ℕ) where
   -- the code's fields are the page's
   module _ (v h m s : ℕ) (ev : v ≡ num 10 (digits 16 2 (b / 256))) (eh : h ≡ num 10 (digits 16 2 (b % 256)))
       (em : m ≡ num 10 (digits 16 2 (c / 256))) (es : s ≡ num 10 (digits 16 2 (c % 256))) where
+    pub range-in : in_range (day_in ds) (hour_in ds) (minute_in ds) (second_in ds) ≡ in_range (a % 16 * 100 + v) h m s
+    range-in = cc (day-in, hour-in, minute-in, second-in)
+
     pub time-in : (f t : ℕ) → f ≡ num 10 (digits 16 4 d ++ take 3 (digits 16 4 e)) → t ≡ tick_at h m s f → time_read 0 (a % 16 * 100 + v) t ≡ time_read 0 (day_in ds) (tick_in ds)
     time-in f t ef et = cc (day-in, hour-in, minute-in, second-in, fraction-in)
 
@@ -235,15 +242,6 @@ module _ (ds : List ℕ) where
   pub read_done : decimal ds ≡ true → range ≡ true → read_digits ds ≡ time_read 0 (day_in ds) (tick_in ds)
   unfolding read_digits digits_refusal
   read_done e f = simp (e, f)
-
-  -- as the code asks: by the number
-  pub read-refused : {n : ℕ} → n ≡ digits_refusal ds → (n ≡ 0 → ⊥) → time_read n 0 0 ≡ read_digits ds
-  unfolding read_digits
-  read-refused e z = rw e (simp (ne_eqb (digits_refusal ds) 0 (λ q. z (e ∙ q))))
-
-  pub read_taken : digits_refusal ds ≡ 0 → read_digits ds ≡ time_read 0 (day_in ds) (tick_in ds)
-  unfolding read_digits
-  read_taken e = simp e
 
 -- there are five of them
 pub words-five : (day tick : ℕ) → length (words_of day tick) ≡ 5

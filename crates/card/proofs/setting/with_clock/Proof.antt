@@ -7,16 +7,16 @@ use borrow.Author.Rules.{rules}
 use Rattle.card.proofs.setting.with_clock.Statement.{statement}
 use Rattle.card.proofs.setting.with_clock.Tie as tie
 
-is-lawful-requires : tie.Need-is-lawful-requires
-is-lawful-requires c κs = search rules
+rest-fits-requires : tie.Need-rest-fits-requires
+rest-fits-requires c κs = search rules
 
 returns : tie.Need-returns
 unfolding on_clock
-returns c = simp (sym c.before.is_lawful.ensures ∙ not-true _ c.if1.true)
+returns c = simp (sym c.before.rest-fits.ensures ∙ not-true _ c.if1.true)
 
 returns-2 : tie.Need-returns-2
 unfolding on_clock
-returns-2 c = simp (sym c.before.before.is_lawful.ensures ∙ not-false _ c.before.if1.false)
+returns-2 c = simp (sym c.before.before.rest-fits.ensures ∙ not-false _ c.before.if1.false)
 
 pub with-clock-spec : {M : Type 1} → statement M
-with-clock-spec = tie.close (tie.spec is-lawful-requires returns returns-2)
+with-clock-spec = tie.close (tie.spec rest-fits-requires returns returns-2)

@@ -1,4 +1,4 @@
--- `falling::periodic_source` meets its contract: the output falls on the multiples of n1 × n2, so its first fall is what the count lacks.
+-- `falling::periodic_source` meets its contract: the output falls on the multiples of n1 × n2.
 -- Assumes nothing.
 use Rattle.clock.proofs.falling.Laws.{divides, periodic-off, periodic-every}
 use native.Mathlib.Omega.{arith}
@@ -21,20 +21,20 @@ cast-period-2 c = search rules
 mul-period : tie.Need-overflow-mul-period
 mul-period c = omega (arith, divides _ _ _ _ c.before.periodic.given.1 c.before.before.before.requires (omega arith) (omega arith))
 
-cast-t7 : tie.Need-overflow-cast-t7
-cast-t7 c = search rules
+cast-gap : tie.Need-overflow-cast-gap
+cast-gap c = search rules
 
-sub-t8 : tie.Need-overflow-sub-t8
-sub-t8 c = omega (arith, divides _ _ _ _ c.before.periodic.given.1 c.before.before.before.requires (omega arith) (omega arith))
+gap-requires : tie.Need-gap-requires
+gap-requires c κs = omega (arith, divides _ _ _ _ c.before.periodic.given.1 c.before.before.before.requires (omega arith) (omega arith))
 
 returns : tie.Need-returns
 returns c = periodic-off _ c.enum_told.given.1
 
 returns-2 : tie.Need-returns-2
 returns-2 c =
-    let e = c.before.periodic.given.1 in
-    let d = divides _ _ _ _ e c.before.before.before.requires (omega arith) (omega arith) in
-    periodic-every _ _ _ _ e d.below (omega (arith, d.high))
+    let e = c.before.before.periodic.given.1 in
+    let d = divides _ _ _ _ e c.before.before.before.before.requires (omega arith) (omega arith) in
+    periodic-every _ _ _ _ _ e d.low (omega (arith, d.high)) c.gap.ensures
 
 pub periodic-source-spec : {M : Type 1} → statement M
 periodic-source-spec =
@@ -45,7 +45,7 @@ periodic-source-spec =
     cast-period
     cast-period-2
     mul-period
-    cast-t7
-    sub-t8
+    cast-gap
+    gap-requires
     returns
     returns-2)

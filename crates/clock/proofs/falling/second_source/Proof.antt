@@ -10,7 +10,7 @@ gap-requires : tie.Need-gap-requires
 gap-requires c κs = search rules
 
 returns : tie.Need-returns
-returns c = second-rhythm _ (in-range _ c.before.before.requires).proper _ c.gap.ensures
+returns c = second-rhythm _ (in-range _ c.before.requires).proper _ c.gap.ensures
 
 pub second-source-spec : {M : Type 1} → statement M
 second-source-spec = tie.close (tie.spec gap-requires returns)

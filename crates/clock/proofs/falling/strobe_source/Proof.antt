@@ -17,9 +17,7 @@ ticks-of-requires : tie.Need-ticks-of-requires
 ticks-of-requires c κs = search rules
 
 gap-requires : tie.Need-gap-requires
-gap-requires c κs =
-    let p = c.before.before.before.before.requires in
-    rw c.ticks-of.ensures (omega (arith, daily-range _ _ c.before.before.strobe.given.1 p.0, (in-range _ p.1).proper.tick))
+gap-requires c κs = rw c.ticks-of.ensures (omega (arith, daily-range _ _ c.before.before.strobe.given.1 c.before.before.before.before.requires.0))
 
 enum-known-strobe-2 : tie.Need-enum-known-strobe-2
 enum-known-strobe-2 c = search rules
@@ -28,9 +26,7 @@ ticks-of-requires-2 : tie.Need-ticks-of-requires-2
 ticks-of-requires-2 c κs = search rules
 
 gap-requires-2 : tie.Need-gap-requires-2
-gap-requires-2 c κs =
-    let s = c.before.before.before in
-    rw c.before.ticks-of2.ensures (omega (arith, each-range _ _ s.strobe2.given.1 s.before.before.requires.0))
+gap-requires-2 c κs = rw c.ticks-of2.ensures (omega (arith, each-range _ _ c.before.before.strobe2.given.1 c.before.before.before.before.requires.0))
 
 returns : tie.Need-returns
 returns c = strobe-off _ (in-range _ c.before.before.requires.1).proper _ c.enum_told.given.1
@@ -44,10 +40,10 @@ returns-2 c =
 
 returns-3 : tie.Need-returns-3
 returns-3 c =
-    let s = c.before.before.before.before in
+    let s = c.before.before.before in
     let p = s.before.before.requires in
     let e = s.strobe2.given.1 in
-    strobe-each _ (in-range _ p.1).proper _ _ _ e (each-range _ _ e p.0) (rw c.before.before.ticks-of2.ensures at c.gap2.ensures)
+    strobe-each _ (in-range _ p.1).proper _ _ _ e (each-range _ _ e p.0) (rw c.before.ticks-of2.ensures at c.gap2.ensures)
 
 pub strobe-source-spec : {M : Type 1} → statement M
 strobe-source-spec =

@@ -9,7 +9,7 @@ later-time-requires : tie.Need-later-time-requires
 later-time-requires c κs = ((parts _ c.before.requires.0).time, c.before.requires.1)
 
 count-later-requires : tie.Need-count-later-requires
-count-later-requires c κs = ((parts _ c.before.before.requires.0).periodic, c.before.before.requires.1, c.before.before.requires.2)
+count-later-requires c κs = ((parts _ c.before.before.requires.0).periodic, c.before.before.requires.1)
 
 returns : tie.Need-returns
 unfolding clock_later

@@ -1,6 +1,8 @@
--- `waiting::count_later` meets its contract: what the next fall is ahead, the count lacks of n1 × n2.
+-- `waiting::count_later` meets its contract: a remainder by n1 × n2 fits 32 bits.
 -- Assumes nothing.
-use Rattle.clock.proofs.falling.Laws.{divides, count-by-next}
+use Rattle.clock.proofs.falling.Laws.{divides}
+use Prim.Native.Nat.{◌+◌}
+use native.Mathlib.Nat.{mod-lt}
 use native.Mathlib.Omega.{arith}
 use Rattle.clock.specs.Waiting.{count_later}
 use borrow.Author.Rules.{rules}
@@ -22,20 +24,20 @@ cast-period-2 c = search rules
 mul-period : tie.Need-overflow-mul-period
 mul-period c = omega (arith, divides _ _ _ _ c.before.periodic.given.1 c.before.before.before.requires.0 (omega arith) (omega arith))
 
-sub-gone : tie.Need-overflow-sub-gone
-sub-gone c = omega (arith, c.before.before.before.requires.2.above)
+cast-gone : tie.Need-overflow-cast-gone
+cast-gone c = search rules
 
-sub-gone-2 : tie.Need-overflow-sub-gone-2
-sub-gone-2 c =
-    let e = c.before.periodic.given.1 in
-    let p = c.before.before.before.requires in
-    let d = divides _ _ _ _ e p.0 (omega arith) (omega arith) in
-    (count-by-next _ _ _ _ _ _ e d.low (omega (arith, d.high)) p.2).0
+add-gone : tie.Need-overflow-add-gone
+add-gone c = search rules
+
+rem-gone : tie.Need-nonzero-rem-gone
+rem-gone c = (divides _ _ _ _ c.before.periodic.given.1 c.before.before.before.requires.0 (omega arith) (omega arith)).low
 
 cast-t11 : tie.Need-overflow-cast-t11
 cast-t11 c =
+    let count = c.before.periodic.given.0.1.1.0 in
     let d = divides _ _ _ _ c.before.periodic.given.1 c.before.before.before.requires.0 (omega arith) (omega arith) in
-    omega (arith, d.high)
+    omega (arith, d.high, mod-lt (count + c.before.before.before.args.ticks) d.low)
 
 returns : tie.Need-returns
 unfolding count_later
@@ -43,11 +45,7 @@ returns c = rw c.enum_told.given.1
 
 returns-2 : tie.Need-returns-2
 unfolding count_later
-returns-2 c =
-    let e = c.before.periodic.given.1 in
-    let p = c.before.before.before.requires in
-    let d = divides _ _ _ _ e p.0 (omega arith) (omega arith) in
-    rw ((count-by-next _ _ _ _ _ _ e d.low (omega (arith, d.high)) p.2).1, e)
+returns-2 c = rw c.before.periodic.given.1
 
 pub count-later-spec : {M : Type 1} → statement M
 count-later-spec =
@@ -58,8 +56,9 @@ count-later-spec =
     cast-period
     cast-period-2
     mul-period
-    sub-gone
-    sub-gone-2
+    cast-gone
+    add-gone
+    rem-gone
     cast-t11
     returns
     returns-2)

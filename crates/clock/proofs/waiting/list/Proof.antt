@@ -1,119 +1,126 @@
--- `waiting::list` meets its contract: with no strobe ahead that is no beat, with a row that is full before it, or past it.
+-- `waiting::list` meets its contract. The invariant: the records up to the last one stand in the row, of whichever clock the first falls are. The measure is
+-- what is left of the row.
 -- Assumes nothing.
+use Prim.Native.Nat.{◌-◌}
+use lib.ListN.{length}
 use native.Mathlib.Omega.{arith}
-use Rattle.clock.proofs.runs.Beats.{timely}
-use Rattle.clock.proofs.waiting.Ended.{list-free, list_full, list-behind, lists-with, not_full}
-use borrow.Author.Rules.{rules}
+use Rattle.clock.specs.declared.clock.Clock.{Clock}
+use Rattle.clock.specs.Sources.{Ready}
+use Rattle.clock.proofs.waiting.Window.{Held, held_none, held_more, brief, filled-all, filled-full}
+use Rattle.clock.proofs.waiting.Heard as heard
 use Rattle.clock.proofs.waiting.list.Statement.{statement}
 use Rattle.clock.proofs.waiting.list.Tie as tie
 
-sources-from-requires : tie.Need-sources-from-requires
-sources-from-requires c κs = search rules
+abbrev invariant-loop : tie.invariant-loop
+invariant-loop ticks row₀ first next₀ last₀ i₀ row next last i = (k : Clock) → Ready k 0 first → Held k ticks row₀ row next last i
 
-begin-requires : tie.Need-begin-requires
-begin-requires c κs = timely _ _ c.sources-from.ensures
+abbrev decreases-loop : tie.decreases-loop
+decreases-loop ticks row₀ first next₀ last₀ i₀ row next last i = length row₀ - i
 
-lone-strobe-requires : tie.Need-lone-strobe-requires
-lone-strobe-requires c κs = search rules
+sources-from-requires : tie.Need-sources-from-requires invariant-loop decreases-loop
+sources-from-requires c κs = c.before.requires.0
 
-add-fill : tie.Need-overflow-add-fill
-add-fill c = search rules
+loop-holds : tie.Need-loop-init invariant-loop decreases-loop
+loop-holds c k r = held_none k _ _ _ r
 
-fill-requires : tie.Need-fill-requires
-fill-requires c κs = search rules
+least-requires : tie.Need-least-requires invariant-loop decreases-loop
+least-requires c κs = tt
 
-less-requires : tie.Need-less-requires
-less-requires c κs = search rules
+told-requires : tie.Need-told-requires invariant-loop decreases-loop
+told-requires c κs = tt
 
-ends-requires : tie.Need-ends-requires
-ends-requires c κs = search rules
+same_length : tie.Need-same-length invariant-loop decreases-loop
+same_length c = let l = c.before.before.before.before in (l.loop.invariant _ l.before.sources-from.ensures).same
 
-same_length : tie.Need-same-length
-same_length c = search rules
-
-returns : tie.Need-returns
+returns : tie.Need-returns invariant-loop decreases-loop
 returns c =
-    let l = c.before.before in
-    let f = l.before.before.before in
-    let o = f.before.before.before in
-    let p = o.before.before.before.before.requires in
-    let r = o.before.before.sources-from.ensures in
-    lists-with _ _ _ _ _ _ _ _ r p.1 p.2
-    (list-free _ _ r _ p.1 _ _ _ _ _ o.lone-strobe.ensures o.before.begin.ensures f.before.before.if1.true f.fill.ensures)
-    (rw l.less.ensures at c.ends.ensures)
+    let l = c.before.before.before.before in
+    let s = l.before.sources-from.ensures in
+    let f = filled-all _ _ _ _ _ _ _ (l.loop.invariant _ s) (rw c.before.before.least.ensures at c.before.if1.true) in
+    rw c.told.ensures (heard.told _ _ _ _ _ _ _ s l.before.before.before.requires.1 f)
 
-fill-requires-2 : tie.Need-fill-requires-2
-fill-requires-2 c κs = search rules
+record-on-requires : tie.Need-record-on-requires invariant-loop decreases-loop
+record-on-requires c κs = omega arith
 
-ends-requires-2 : tie.Need-ends-requires-2
-ends-requires-2 c κs = search rules
+mul-row : tie.Need-overflow-mul-row invariant-loop decreases-loop
+mul-row c = let l = c.before.before.before.before in omega (arith, l.loop.invariant _ l.before.sources-from.ensures)
 
-same-length-2 : tie.Need-same-length-2
-same-length-2 c = search rules
+slice-write-row : tie.Need-slice-write-row invariant-loop decreases-loop
+slice-write-row c = omega arith
 
-returns-2 : tie.Need-returns-2
+all-past-requires : tie.Need-all-past-requires invariant-loop decreases-loop
+all-past-requires c κs =
+    let l = c.before.before.before.before in
+    (omega arith, brief _ _ _ (l.loop.invariant _ l.before.sources-from.ensures).ready)
+
+add-i : tie.Need-overflow-add-i invariant-loop decreases-loop
+add-i c = let l = c.before.before.before.before.before in omega (arith, l.loop.invariant _ l.before.sources-from.ensures)
+
+loop-less : tie.Need-loop-smaller invariant-loop decreases-loop
+loop-less c = let l = c.before.before.before.before.before in omega (arith, l.loop.invariant _ l.before.sources-from.ensures)
+
+loop-again : tie.Need-loop-preserved invariant-loop decreases-loop
+loop-again c k r =
+    let p = c.before.before.before in
+    let l = p.before.before in
+    let m = rw p.least.ensures at c.before.before.if1.false in
+    rw (c.All-past.ensures, c.before.record-on.ensures, p.least.ensures)
+    (held_more k _ _ _ _ _ _ l.before.before.before.requires.1 p.before.loop-test.true m (l.loop.invariant k r))
+
+least-requires-2 : tie.Need-least-requires-2 invariant-loop decreases-loop
+least-requires-2 c κs = tt
+
+told-requires-2 : tie.Need-told-requires-2 invariant-loop decreases-loop
+told-requires-2 c κs = tt
+
+same-length-2 : tie.Need-same-length-2 invariant-loop decreases-loop
+same-length-2 c = let l = c.before.before.before.before in (l.loop.invariant _ l.before.sources-from.ensures).same
+
+returns-2 : tie.Need-returns-2 invariant-loop decreases-loop
 returns-2 c =
-    let f = c.before.before.before.before.before.before in
-    let o = f.before.before.before in
-    let p = o.before.before.before.before.requires in
-    let r = o.before.before.sources-from.ensures in
-    lists-with _ _ _ _ _ _ _ _ r p.1 p.2
-    (list_full _ _ r _ p.1 _ _ _ _ _ o.lone-strobe.ensures o.before.begin.ensures f.before.before.if1.false f.fill2.ensures
-    (omega (arith, c.before.before.if2.true, c.before.before.before.before.before.row2.given)))
-    c.ends2.ensures
+    let l = c.before.before.before.before in
+    let s = l.before.sources-from.ensures in
+    let f = filled-all _ _ _ _ _ _ _ (l.loop.invariant _ s) (rw c.before.before.least2.ensures at c.before.if2.true) in
+    rw c.told2.ensures (heard.told _ _ _ _ _ _ _ s l.before.before.before.requires.1 f)
 
-add-fill-from : tie.Need-overflow-add-fill-from
-add-fill-from c = search rules
+told-requires-3 : tie.Need-told-requires-3 invariant-loop decreases-loop
+told-requires-3 c κs = tt
 
-fill-from-requires : tie.Need-fill-from-requires
-fill-from-requires c κs =
-    let f = c.before.before.before.before.before in
-    let u = f.fill2.ensures.keeps in
-    let e = c.before.before.before.before.row2.given in
-    let v = not_full _ _ _ _ _ f.fill2.ensures (omega (arith, c.before.if2.false, u.room, e)) in
-    (u.sized, omega arith, omega arith, omega (arith, c.before.if2.false, u.room, e), v.0, v.1)
+same-length-3 : tie.Need-same-length-3 invariant-loop decreases-loop
+same-length-3 c = let l = c.before.before.before.before in (l.loop.invariant _ l.before.sources-from.ensures).same
 
-less-requires-2 : tie.Need-less-requires-2
-less-requires-2 c κs = search rules
-
-ends-requires-3 : tie.Need-ends-requires-3
-ends-requires-3 c κs = search rules
-
-same-length-3 : tie.Need-same-length-3
-same-length-3 c = search rules
-
-returns-3 : tie.Need-returns-3
+returns-3 : tie.Need-returns-3 invariant-loop decreases-loop
 returns-3 c =
-    let l = c.before.before in
-    let h = l.before.before.before in
-    let f = h.before.before.before.before.before.before in
-    let o = f.before.before.before in
-    let p = o.before.before.before.before.requires in
-    let r = o.before.before.sources-from.ensures in
-    lists-with _ _ _ _ _ _ _ _ r p.1 p.2
-    (list-behind _ _ r _ p.1 _ _ _ _ _ o.lone-strobe.ensures o.before.begin.ensures f.before.before.if1.false f.fill2.ensures _ _ h.before.before.before.before.before.row2.given h.fill-from.ensures)
-    (rw l.less2.ensures at c.ends3.ensures)
+    let l = c.before.before.before.before in
+    let s = l.before.sources-from.ensures in
+    let p = l.before.before.before.requires in
+    let m = rw c.before.before.least2.ensures at c.before.if2.false in
+    let f = filled-full _ _ _ _ _ _ _ p.2 p.1 (l.loop.invariant _ s) c.before.before.before.loop-test.false m in
+    rw c.told3.ensures (heard.told _ _ _ _ _ _ _ s p.1 f)
 
 pub list-spec : {M : Type 1} → statement M
 list-spec =
     tie.close
     (tie.spec
+    invariant-loop
+    decreases-loop
     sources-from-requires
-    begin-requires
-    lone-strobe-requires
-    add-fill
-    fill-requires
-    less-requires
-    ends-requires
+    loop-holds
+    least-requires
+    told-requires
     same_length
     returns
-    fill-requires-2
-    ends-requires-2
+    record-on-requires
+    mul-row
+    slice-write-row
+    all-past-requires
+    add-i
+    loop-less
+    loop-again
+    least-requires-2
+    told-requires-2
     same-length-2
     returns-2
-    add-fill-from
-    fill-from-requires
-    less-requires-2
-    ends-requires-3
+    told-requires-3
     same-length-3
     returns-3)
