@@ -1,0 +1,10 @@
+-- `saved::modulation_of` meets its contract: by the bit.
+-- Assumes nothing.
+use borrow.Author.Tests.{ne_eqb}
+use Rattle.parts.proofs.saved.modulation_of.Goals as goal
+
+pub returns-in-1 : goal.returns-in-1
+returns-in-1 c = simp c.in-1.is
+
+pub returns-in_default : goal.returns-in_default
+returns-in_default c = simp (ne_eqb _ _ c.in_default.in_default-own.rest.1)

@@ -1,0 +1,11 @@
+-- `words::fraction` meets its contract: three pairs of digits and one more, by `fraction-by-pairs`.
+-- Assumes nothing.
+use native.Mathlib.Omega.{arith}
+use Rattle.wire.proofs.words.Laws.{fraction-by-pairs}
+use borrow.Author.Rules.{rules}
+use Rattle.wire.proofs.words.fraction.Goals as goal
+
+pub returns : goal.returns
+returns c =
+    let s = c.args in
+    omega (arith, fraction-by-pairs s.d s.e)

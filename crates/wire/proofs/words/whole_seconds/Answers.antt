@@ -1,0 +1,8 @@
+-- `words::whole_seconds` meets its contract.
+-- Assumes nothing.
+use borrow.Author.Rules.{rules}
+use Rattle.wire.proofs.words.Pairs.{seconds-in-blocks}
+use Rattle.wire.proofs.words.whole_seconds.Goals as goal
+
+pub returns : goal.returns
+returns c = seconds-in-blocks c.args.tick c.requires c.split.ensures
