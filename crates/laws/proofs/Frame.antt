@@ -127,7 +127,7 @@ touched k c d (Effect.loads bytes e j) = refl
 touched k c d (Effect.writes-frame row) = refl
 touched k c d (Effect.switches-jam on j) = refl
 
-excepted : {n : ℕ} (k : Call) (c d : Card) → Excepted k c d n → Same (touches k c) c d
+excepted : (k : Call) (c d : Card) {n : ℕ} → Excepted k c d n → Same (touches k c) c d
 unfolding touches write_touches
 excepted k c d (Excepted.packet v l b z) = subst (λ (fs : List Field). Same fs c d) (sym (ack-refuses v c b z)) (refused-touched c)
 excepted k c d (Excepted.block row l r f) = touched _ c d (found-effect c row l)

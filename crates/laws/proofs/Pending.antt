@@ -96,7 +96,7 @@ four c d k l (Effect.loads bytes e j) h = h
 four c d k l (Effect.writes-frame row) h = h
 four c d k l (Effect.switches-jam on j) h = h
 
-four-excepted : {n : ℕ} (k : Call) (c d : Card) → Excepted k c d n → pending_bit 4 d ≡ true → pending_bit 4 c ≡ true
+four-excepted : (k : Call) (c d : Card) {n : ℕ} → Excepted k c d n → pending_bit 4 d ≡ true → pending_bit 4 c ≡ true
 four-excepted k c d (Excepted.packet v l b z) h = h
 four-excepted k c d (Excepted.block row l r f) h = four c d _ l (found-effect c row l) h
 

@@ -44,8 +44,11 @@ refused k c = by-outcome k c (outcome k c)
 -- a packet is refused by 4 to 10 or 25, a block by 3
 pub excepted-number : {d : Card} {n : ℕ} (k : Call) (c : Card) → Excepted k c d n → (((4 ≤ n) × (n ≤ 10)) ⊎ (n ≡ 25)) ⊎ ((n ≡ 3) × (k ≡ Call.block (lent k)))
 unfolding lent
-excepted-number k c (Excepted.packet v l b z) = inl (ack-numbers c.jam (queued c.queue) z)
-excepted-number k c (Excepted.block row l r f) = inr (refl, refl)
+excepted-number k c x = by-case k c x
+  where
+    by-case : (k : Call) (c : Card) {d : Card} {n : ℕ} → Excepted k c d n → (((4 ≤ n) × (n ≤ 10)) ⊎ (n ≡ 25)) ⊎ ((n ≡ 3) × (k ≡ Call.block (lent k)))
+    by-case k c (Excepted.packet v l b z) = inl (ack-numbers c.jam (queued c.queue) z)
+    by-case k c (Excepted.block row l r f) = inr (refl, refl)
 
 -- ---- 18
 

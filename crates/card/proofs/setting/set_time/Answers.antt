@@ -1,0 +1,11 @@
+-- `setting::set_time` meets its contract: the clock's answer is the card's.
+-- Assumes nothing.
+use mathlib.Core.Path.{ap, ◌∙◌}
+use Rattle.card.specs.Setting.{set_time, on_clock}
+use Rattle.card.proofs.setting.Laws.{on-clock}
+use borrow.Author.Rules.{rules}
+use Rattle.card.proofs.setting.set_time.Goals as goal
+
+pub returns : goal.returns
+unfolding set_time
+returns c = c.with_clock.ensures ∙ ap (on_clock c.args.card) c.set_time.ensures ∙ on-clock _ _ _

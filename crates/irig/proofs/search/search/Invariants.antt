@@ -1,0 +1,13 @@
+-- `search::search` meets its contract. The invariant: what is searched is the rest of the row, behind a marker or not. The measure is that rest.
+-- Assumes nothing.
+use Prim.Native.Nat.{◌-◌}
+use native.Mathlib.Omega.{arith}
+use lib.ListN.{length}
+use Rattle.irig.proofs.search.Laws.{Searching, search-start, search-more, search-found, search-over}
+use Rattle.irig.proofs.search.search.Given as goal
+
+abbrev pub invariant-loop-i : goal.invariant-loop-i
+invariant-loop-i l = Searching l.marked l.row l.before l.i
+
+abbrev pub decreases-loop-i : goal.decreases-loop-i
+decreases-loop-i l = length l.row - l.i
