@@ -1,0 +1,13 @@
+-- `feeding::end_of` meets its contract. The invariant: no end among the i bytes that were looked at. The measure is what is left of the input.
+-- Assumes nothing.
+use Prim.Native.Nat.{◌-◌}
+use native.Mathlib.Omega.{arith}
+use lib.ListN.{length}
+use Rattle.listing.proofs.feeding.Ends.{Looked, looked-none, looked-last, looked-more, looked-all}
+use Rattle.listing.proofs.feeding.end_of.Given as goal
+
+abbrev pub invariant-loop-i : goal.invariant-loop-i
+invariant-loop-i l = Looked l.held l.input l.i
+
+abbrev pub decreases-loop-i : goal.decreases-loop-i
+decreases-loop-i l = length l.input - l.i
