@@ -3,9 +3,7 @@ use Rattle.std.specs.Prelude.{ℕ, ◌+◌, ◌*◌, ◌%◌, Bool, true, false,
 use Rattle.wire.specs.Digits.{pick}
 use Rattle.wire.specs.Time.{ticks_of}
 use Rattle.clock.specs.declared.clock.Strobe.{Strobe}
-use Rattle.clock.specs.declared.clock.Strobe.TheVariants as Strobe
 use Rattle.clock.specs.declared.clock.Periodic.{Periodic}
-use Rattle.clock.specs.declared.clock.Periodic.TheVariants as Periodic
 use Rattle.clock.specs.declared.clock.Clock.{Clock}
 use Rattle.clock.specs.Time.{later}
 

@@ -4,15 +4,11 @@ use Rattle.wire.specs.Digits.{pick}
 use Rattle.wire.specs.Numbers.{Line, ◌if◌, given}
 use Rattle.wire.specs.Time.{tick_at}
 use Rattle.clock.specs.declared.clock.Strobe.{Strobe}
-use Rattle.clock.specs.declared.clock.Strobe.TheVariants as Strobe
 use Rattle.clock.specs.declared.clock.Periodic.{Periodic}
-use Rattle.clock.specs.declared.clock.Periodic.TheVariants as Periodic
 use Rattle.clock.specs.declared.clock.Clock.{Clock}
 use Rattle.clock.specs.declared.setting.Answer.{Answer}
 use Rattle.clock.specs.declared.setting.StrobeAt.{StrobeAt}
-use Rattle.clock.specs.declared.setting.StrobeAt.TheVariants as StrobeAt
 use Rattle.clock.specs.declared.setting.Dividers.{Dividers}
-use Rattle.clock.specs.declared.setting.Dividers.TheVariants as Dividers
 use Rattle.clock.specs.Time.{instant, days_in}
 use Rattle.clock.specs.Clocks.{clock_lawful, with_time, with_strobe, with_periodic}
 

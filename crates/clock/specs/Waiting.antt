@@ -4,7 +4,6 @@ use Rattle.wire.specs.Digits.{pick}
 use Rattle.wire.specs.Numbers.{Line, ◌if◌, given}
 use Rattle.wire.specs.Time.{ticks_of_day}
 use Rattle.clock.specs.declared.clock.Periodic.{Periodic}
-use Rattle.clock.specs.declared.clock.Periodic.TheVariants as Periodic
 use Rattle.clock.specs.declared.clock.Clock.{Clock}
 use Rattle.clock.specs.declared.waiting.Fell.{Fell}
 use Rattle.clock.specs.declared.waiting.Passed.{Passed}

@@ -15,7 +15,6 @@ use Rattle.wire.specs.Digits.{pick}
 use Rattle.wire.proofs.digits.Laws.{lt-or-le, and_right, clash}
 use Rattle.irig.specs.declared.stream.Stream.{Stream}
 use Rattle.irig.specs.declared.stream.Finished.{Finished}
-use Rattle.irig.specs.declared.stream.Finished.TheVariants as Finished
 use Rattle.irig.specs.declared.stream.RowTaken.{RowTaken}
 use Rattle.irig.specs.declared.search.Searched.{Searched}
 use Rattle.irig.specs.Reading.{read_frame}

@@ -1,6 +1,6 @@
 -- A stream that is handed over in parts, cut anywhere, gives the frames of the whole: nothing is lost or found twice at a cut. By what any run of calls finds, and that each call takes
 -- something. Assumes nothing.
-use Prim.Native.Nat.{ℕ, zero, suc, ◌+◌, ◌-◌, ◌≤◌}
+use Prim.Native.Nat.{ℕ, zero, suc, ◌-◌, ◌≤◌}
 use mathlib.Core.Path.{◌≡◌, refl, sym, ◌∙◌, ap, ap₂}
 use mathlib.Core.Bool.{Bool, true, false}
 use mathlib.Core.List.{List, [], ◌∷◌, ◌++◌, append_assoc}
@@ -12,7 +12,6 @@ use Rattle.wire.specs.Digits.{pick}
 use Rattle.wire.specs.declared.words.TimeRead.{TimeRead}
 use Rattle.irig.specs.declared.stream.Stream.{Stream}
 use Rattle.irig.specs.declared.stream.Finished.{Finished}
-use Rattle.irig.specs.declared.stream.Finished.TheVariants as Finished
 use Rattle.irig.specs.declared.stream.RowTaken.{RowTaken}
 use Rattle.irig.specs.Reading.{read_frame}
 use Rattle.irig.specs.Streams.{fresh_stream, lawful, next, frame_ends, behind, one_by_one, take_row}

@@ -4,7 +4,6 @@ use Rattle.wire.specs.Digits.{pick, below}
 use Rattle.wire.specs.declared.words.TimeRead.{TimeRead}
 use Rattle.irig.specs.declared.stream.Stream.{Stream}
 use Rattle.irig.specs.declared.stream.Finished.{Finished}
-use Rattle.irig.specs.declared.stream.Finished.TheVariants as Finished
 use Rattle.irig.specs.Reading.{read_frame}
 use Rattle.irig.specs.Streams.{fresh_stream, take_row}
 

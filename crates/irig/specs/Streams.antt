@@ -5,7 +5,6 @@ use Rattle.wire.specs.Digits.{pick, below}
 use Rattle.wire.specs.Numbers.{Line, ◌if◌, given}
 use Rattle.irig.specs.declared.stream.Stream.{Stream}
 use Rattle.irig.specs.declared.stream.Finished.{Finished}
-use Rattle.irig.specs.declared.stream.Finished.TheVariants as Finished
 use Rattle.irig.specs.declared.stream.RowTaken.{RowTaken}
 use Rattle.irig.specs.declared.search.Searched.{Searched}
 use Rattle.irig.specs.Reading.{read_frame}

@@ -14,7 +14,6 @@ use Rattle.wire.specs.Packets.{read_packet, packet_refusal, frame_lines, body_li
 use Rattle.wire.specs.declared.packets.Format.TheVariants as Format
 use Rattle.wire.specs.declared.packets.Modulation.TheVariants as Modulation
 use Rattle.wire.specs.declared.packets.Packet.{Packet}
-use Rattle.wire.specs.declared.packets.Packet.TheVariants as Packet
 use Rattle.parts.specs.Queues.{empty_queue}
 use Rattle.parts.specs.declared.settings.Settings.{Settings}
 use Rattle.parts.specs.Settings.{settings_lawful, jam_fits}

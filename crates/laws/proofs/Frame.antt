@@ -11,7 +11,6 @@ use Rattle.wire.specs.Digits.{pick}
 use Rattle.wire.specs.Packets.{packet_in}
 use Rattle.wire.proofs.digits.Laws.{and-true}
 use Rattle.wire.specs.declared.packets.Packet.{Packet}
-use Rattle.wire.specs.declared.packets.Packet.TheVariants as Packet
 use Rattle.clock.specs.Waiting.{passed}
 use Rattle.clock.proofs.waiting.Resume.{strobe-later}
 use Rattle.parts.specs.declared.event.Event.{Event}

@@ -9,7 +9,6 @@ use Rattle.wire.specs.Digits.{pick}
 use Rattle.wire.specs.Numbers.{◌if◌}
 use Rattle.wire.specs.Packets.{offset_large}
 use Rattle.wire.specs.declared.packets.Packet.{Packet}
-use Rattle.wire.specs.declared.packets.Packet.TheVariants as Packet
 use Rattle.parts.specs.Settings.{jam_fits}
 use Rattle.card.specs.declared.card.Card.{Card}
 use Rattle.card.specs.declared.card.Answer.{Answer}

@@ -10,7 +10,6 @@ use Rattle.wire.specs.Digits.{pick}
 use Rattle.wire.specs.Words.{zero_words}
 use Rattle.wire.proofs.digits.Laws.{clash}
 use Rattle.wire.specs.declared.packets.Packet.{Packet}
-use Rattle.wire.specs.declared.packets.Packet.TheVariants as Packet
 use Rattle.parts.specs.declared.event.Event.{Event}
 use Rattle.parts.specs.Events.{matching}
 use Rattle.parts.proofs.event.Laws.{edge-captures}

@@ -20,7 +20,6 @@ use Rattle.card.specs.declared.card.Card.{Card}
 use Rattle.card.specs.declared.waiting.WaitedCard.{WaitedCard}
 use Rattle.card.specs.Lawful.{lawful}
 use Rattle.card.specs.Registers
-use Rattle.card.specs.Waiting.{wait}
 use Rattle.card.proofs.lawful.Laws.{parts}
 use Rattle.card.proofs.registers.Laws.{edge-takes, intstat-takes}
 use Rattle.card.proofs.waiting.Laws.{wait-is, pending-after}

@@ -4,7 +4,6 @@ use Rattle.std.specs.Prelude.{ℕ, ◌^◌, ◌≡◌, Bool, false, ◌||◌, Li
 use Rattle.wire.specs.Digits.{pick}
 use Rattle.wire.specs.Packets.{packet_in}
 use Rattle.wire.specs.declared.packets.Packet.{Packet}
-use Rattle.wire.specs.declared.packets.Packet.TheVariants as Packet
 use Rattle.clock.specs.declared.setting.StrobeAt.{StrobeAt}
 use Rattle.clock.specs.declared.setting.Dividers.{Dividers}
 use Rattle.parts.specs.declared.event.Event.{Event}

@@ -10,7 +10,6 @@ use Rattle.wire.specs.declared.packets.ClockSource.TheVariants as ClockSource
 use Rattle.wire.specs.declared.packets.Generator.TheVariants as Generator
 use Rattle.wire.specs.declared.packets.Packet.TheVariants as Packet
 use Rattle.wire.specs.declared.packets.PacketRead.{PacketRead}
-use Rattle.wire.specs.declared.packets.PacketRead.TheVariants as PacketRead
 use Rattle.clock.specs.declared.clock.Strobe.TheVariants as Strobe
 use Rattle.clock.specs.declared.clock.Periodic.TheVariants as Periodic
 use Rattle.clock.specs.declared.setting.StrobeAt.TheVariants as StrobeAt

@@ -3,16 +3,11 @@ use Rattle.std.specs.Prelude.{ℕ, Bool, ◌&&◌, not, List, [], ◌∷◌, ◌
 use Rattle.wire.specs.Digits.{pick, digits, num, below, packed, unpacked}
 use Rattle.wire.specs.Numbers.{Line, ◌if◌, given}
 use Rattle.wire.specs.declared.packets.Format.{Format}
-use Rattle.wire.specs.declared.packets.Format.TheVariants as Format
 use Rattle.wire.specs.declared.packets.Modulation.{Modulation}
-use Rattle.wire.specs.declared.packets.Modulation.TheVariants as Modulation
 use Rattle.wire.specs.declared.packets.ClockSource.{ClockSource}
-use Rattle.wire.specs.declared.packets.ClockSource.TheVariants as ClockSource
 use Rattle.wire.specs.declared.packets.Generator.{Generator}
-use Rattle.wire.specs.declared.packets.Generator.TheVariants as Generator
 use Rattle.parts.specs.declared.settings.Settings.{Settings}
 use Rattle.parts.specs.declared.saved.SettingsRead.{SettingsRead}
-use Rattle.parts.specs.declared.saved.SettingsRead.TheVariants as SettingsRead
 use Rattle.parts.specs.Settings.{settings_lawful}
 
 -- THE FIELDS

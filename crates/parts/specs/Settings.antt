@@ -2,7 +2,6 @@
 use Rattle.std.specs.Prelude.{Bool, ◌&&◌, not, ltb}
 use Rattle.wire.specs.Packets.{mode_means, pair_means, offset_fits, offset_large}
 use Rattle.wire.specs.declared.packets.Packet.{Packet}
-use Rattle.wire.specs.declared.packets.Packet.TheVariants as Packet
 use Rattle.parts.specs.declared.settings.Settings.{Settings}
 
 -- 18: a mode of 0 to 7 but 4 and 7, no forbidden pair, an offset of at most seven digits

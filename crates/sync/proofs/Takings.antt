@@ -5,7 +5,6 @@ use mathlib.Core.Path.{◌≡◌, refl, ap, ◌∙◌}
 use mathlib.Core.Bool.{Bool, true, false}
 use Rattle.sync.specs.declared.board.Board.{Board}
 use Rattle.sync.specs.declared.interrupts.Interrupt.{Interrupt}
-use Rattle.sync.specs.declared.interrupts.Interrupt.TheVariants as Interrupt
 use Rattle.sync.specs.Lawful.{lawful}
 use Rattle.sync.specs.Interrupts.{err_taken, slo_taken, fast_taken, next, next_taken, take_interrupt}
 use Rattle.sync.specs.Calls.{Call, after, after_all}

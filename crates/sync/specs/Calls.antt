@@ -5,7 +5,6 @@ use Rattle.wire.specs.Digits.{pick}
 use Rattle.wire.specs.Numbers.{Line}
 use Rattle.sync.specs.declared.board.Board.{Board}
 use Rattle.sync.specs.declared.interrupts.Interrupt.{Interrupt}
-use Rattle.sync.specs.declared.interrupts.Interrupt.TheVariants as Interrupt
 use Rattle.sync.specs.Switches
 use Rattle.sync.specs.Stepping
 use Rattle.sync.specs.Register

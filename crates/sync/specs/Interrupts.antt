@@ -4,7 +4,6 @@ use Rattle.wire.specs.Digits.{pick}
 use Rattle.wire.specs.Numbers.{Line, ◌if◌, given}
 use Rattle.sync.specs.declared.board.Board.{Board}
 use Rattle.sync.specs.declared.interrupts.Interrupt.{Interrupt}
-use Rattle.sync.specs.declared.interrupts.Interrupt.TheVariants as Interrupt
 use Rattle.sync.specs.declared.interrupts.Taken.{Taken}
 use Rattle.sync.specs.Boards.{with_waiting}
 use Rattle.sync.specs.Lawful.{lawful}

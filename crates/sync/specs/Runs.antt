@@ -3,7 +3,6 @@ use Rattle.std.specs.Prelude.{ℕ, ◌+◌, ◌≡◌, Bool, true, false, ◌&&�
 use Rattle.wire.specs.Digits.{pick}
 use Rattle.sync.specs.declared.board.Board.{Board}
 use Rattle.sync.specs.declared.interrupts.Interrupt.{Interrupt}
-use Rattle.sync.specs.declared.interrupts.Interrupt.TheVariants as Interrupt
 use Rattle.sync.specs.Boards.{switches_fit, fresh_board}
 use Rattle.sync.specs.Counting.{frequency, count, count_falls}
 use Rattle.sync.specs.Stepping.{in_time}

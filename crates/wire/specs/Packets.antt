@@ -3,19 +3,12 @@ use Rattle.std.specs.Prelude.{ℕ, suc, ◌+◌, ◌-◌, Bool, true, false, ◌
 use Rattle.wire.specs.Digits.{pick, digits, num}
 use Rattle.wire.specs.Numbers.{Line, ◌if◌, given}
 use Rattle.wire.specs.declared.packets.Format.{Format}
-use Rattle.wire.specs.declared.packets.Format.TheVariants as Format
 use Rattle.wire.specs.declared.packets.Modulation.{Modulation}
-use Rattle.wire.specs.declared.packets.Modulation.TheVariants as Modulation
 use Rattle.wire.specs.declared.packets.ClockSource.{ClockSource}
-use Rattle.wire.specs.declared.packets.ClockSource.TheVariants as ClockSource
 use Rattle.wire.specs.declared.packets.Generator.{Generator}
-use Rattle.wire.specs.declared.packets.Generator.TheVariants as Generator
 use Rattle.wire.specs.declared.packets.Packet.{Packet}
-use Rattle.wire.specs.declared.packets.Packet.TheVariants as Packet
 use Rattle.wire.specs.declared.packets.PacketRead.{PacketRead}
-use Rattle.wire.specs.declared.packets.PacketRead.TheVariants as PacketRead
 use Rattle.wire.specs.declared.packets.Number.{Number}
-use Rattle.wire.specs.declared.packets.Number.TheVariants as Number
 use Rattle.wire.specs.declared.packets.PacketWritten.{PacketWritten}
 
 -- THE TABLE OF IDS

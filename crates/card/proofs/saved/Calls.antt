@@ -14,7 +14,6 @@ use Rattle.card.specs.declared.card.Answer.{Answer}
 use Rattle.parts.specs.declared.settings.Settings.{Settings}
 use Rattle.parts.specs.Settings.{jam_fits}
 use Rattle.parts.specs.declared.saved.SettingsRead.{SettingsRead}
-use Rattle.parts.specs.declared.saved.SettingsRead.TheVariants as SettingsRead
 use Rattle.card.specs.Lawful.{lawful}
 use Rattle.card.specs.Cards.{answer, granted, with_settings}
 use Rattle.card.proofs.lawful.Laws.{parts}

@@ -12,9 +12,7 @@ use Rattle.wire.specs.Time.{ticks_of_day}
 use Rattle.wire.specs.declared.time.Milliseconds.{Milliseconds}
 use Rattle.wire.proofs.digits.Laws.{lt-or-le, and_both}
 use Rattle.clock.specs.declared.clock.Strobe.{Strobe}
-use Rattle.clock.specs.declared.clock.Strobe.TheVariants as Strobe
 use Rattle.clock.specs.declared.clock.Periodic.{Periodic}
-use Rattle.clock.specs.declared.clock.Periodic.TheVariants as Periodic
 use Rattle.clock.specs.declared.time.Time.{Time}
 use Rattle.clock.specs.Time.{later}
 use Rattle.clock.specs.Falling.{second_falls, strobe_falls, periodic_falls, strobe_lawful, periodic_lawful}

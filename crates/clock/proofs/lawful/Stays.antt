@@ -12,12 +12,9 @@ use Rattle.wire.proofs.digits.Laws.{and_both}
 use Rattle.clock.specs.declared.time.Time.{Time}
 use Rattle.clock.specs.declared.clock.Strobe.TheVariants as Strobe
 use Rattle.clock.specs.declared.clock.Periodic.{Periodic}
-use Rattle.clock.specs.declared.clock.Periodic.TheVariants as Periodic
 use Rattle.clock.specs.declared.clock.Clock.{Clock}
 use Rattle.clock.specs.declared.setting.StrobeAt.{StrobeAt}
-use Rattle.clock.specs.declared.setting.StrobeAt.TheVariants as StrobeAt
 use Rattle.clock.specs.declared.setting.Dividers.{Dividers}
-use Rattle.clock.specs.declared.setting.Dividers.TheVariants as Dividers
 use Rattle.clock.specs.Time.{instant, days_in, later, time_lawful}
 use Rattle.clock.specs.Falling.{strobe_lawful, periodic_lawful}
 use Rattle.clock.specs.Clocks.{clock_lawful, with_strobe, with_periodic}

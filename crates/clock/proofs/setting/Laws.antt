@@ -7,9 +7,7 @@ use lib.Dec.{leb}
 use borrow.Author.Tests.{le-leb, leb-true}
 use Rattle.wire.proofs.digits.Laws.{and-true, and_left, and_right, and_both}
 use Rattle.clock.specs.declared.setting.StrobeAt.{StrobeAt}
-use Rattle.clock.specs.declared.setting.StrobeAt.TheVariants as StrobeAt
 use Rattle.clock.specs.declared.setting.Dividers.{Dividers}
-use Rattle.clock.specs.declared.setting.Dividers.TheVariants as Dividers
 use Rattle.clock.specs.Time.{days_in}
 use Rattle.clock.specs.Setting.{time_of_day, date_fits, strobe_fits, dividers_fit}
 

@@ -16,7 +16,7 @@ use Rattle.clock.specs.declared.falling.Sources.{Sources}
 use Rattle.clock.specs.declared.waiting.Listed.{Listed}
 use Rattle.clock.specs.Time.{later}
 use Rattle.clock.specs.Falling.{second_falls, strobe_falls, periodic_falls, falls}
-use Rattle.clock.specs.Waiting.{record_of, records, listed, row_listed, moved_on, source_listed, fell}
+use Rattle.clock.specs.Waiting.{record_of, records, row_listed, moved_on, source_listed, fell}
 use Rattle.clock.specs.Sources.{NextFall, Ready, second_on, strobe_on, within, listing}
 use Rattle.clock.proofs.waiting.Window.{Filled}
 

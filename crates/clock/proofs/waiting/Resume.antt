@@ -14,7 +14,6 @@ use lib.Seq.{take_all, get_or-append-add}
 use Rattle.wire.proofs.digits.Laws.{lt-or-le, and_both}
 use Rattle.clock.specs.declared.time.Time.{Time}
 use Rattle.clock.specs.declared.clock.Periodic.{Periodic}
-use Rattle.clock.specs.declared.clock.Periodic.TheVariants as Periodic
 use Rattle.clock.specs.declared.clock.Clock.{Clock}
 use Rattle.clock.specs.Time.{later}
 use Rattle.clock.specs.Clocks.{clock_lawful}

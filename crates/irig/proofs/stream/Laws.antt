@@ -15,7 +15,6 @@ use Rattle.wire.proofs.digits.Laws.{and_assoc, and-true, zeros, and_right, and_b
 use Rattle.wire.specs.declared.words.TimeRead.{TimeRead}
 use Rattle.irig.specs.declared.stream.Stream.{Stream}
 use Rattle.irig.specs.declared.stream.Finished.{Finished}
-use Rattle.irig.specs.declared.stream.Finished.TheVariants as Finished
 use Rattle.irig.specs.declared.stream.RowTaken.{RowTaken}
 use Rattle.irig.specs.declared.search.Searched.{Searched}
 use Rattle.irig.specs.Reading.{read_frame}

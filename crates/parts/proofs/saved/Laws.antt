@@ -17,17 +17,12 @@ use Rattle.wire.specs.Digits.{pick, digits, num, below, packed, unpacked}
 use Rattle.wire.specs.Packets.{mode_means, pair_means, offset_fits}
 use Rattle.wire.proofs.digits.Laws.{and_left, and_right, zeros, digits-length, digits_above, digits-mod-pow, digits-split, num-digits}
 use Rattle.wire.specs.declared.packets.Format.{Format}
-use Rattle.wire.specs.declared.packets.Format.TheVariants as Format
 use Rattle.wire.specs.declared.packets.Modulation.{Modulation}
-use Rattle.wire.specs.declared.packets.Modulation.TheVariants as Modulation
 use Rattle.wire.specs.declared.packets.ClockSource.{ClockSource}
-use Rattle.wire.specs.declared.packets.ClockSource.TheVariants as ClockSource
 use Rattle.wire.specs.declared.packets.Generator.{Generator}
-use Rattle.wire.specs.declared.packets.Generator.TheVariants as Generator
 use Rattle.wire.proofs.words.Laws.{five-of}
 use Rattle.parts.specs.declared.settings.Settings.{Settings}
 use Rattle.parts.specs.declared.saved.SettingsRead.{SettingsRead}
-use Rattle.parts.specs.declared.saved.SettingsRead.TheVariants as SettingsRead
 use Rattle.parts.specs.Settings.{settings_lawful}
 use Rattle.parts.specs.Saved.{format_number, modulation_bit, clock_bit, generator_bit, sign_bit, settings_bits, saved_form, bits_at, format_of_number, modulation_of_bit, clock_of_bit, generator_of_bit, offset_of_bits, settings_in, meaningful, saved_refusal, read_bits, read_saved}
 

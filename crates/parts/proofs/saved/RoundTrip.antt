@@ -12,13 +12,9 @@ use borrow.Author.Tests.{leb-true, eqb-true, not-false}
 use Rattle.wire.specs.Digits.{digits, below, packed, unpacked}
 use Rattle.wire.proofs.numbers.Laws.{given-zero, quiet-first}
 use Rattle.wire.specs.declared.packets.Format.{Format}
-use Rattle.wire.specs.declared.packets.Format.TheVariants as Format
 use Rattle.wire.specs.declared.packets.Modulation.{Modulation}
-use Rattle.wire.specs.declared.packets.Modulation.TheVariants as Modulation
 use Rattle.wire.specs.declared.packets.ClockSource.{ClockSource}
-use Rattle.wire.specs.declared.packets.ClockSource.TheVariants as ClockSource
 use Rattle.wire.specs.declared.packets.Generator.{Generator}
-use Rattle.wire.specs.declared.packets.Generator.TheVariants as Generator
 use Rattle.wire.proofs.digits.Laws.{and_left, and_right, and_both, zeros, cut, below-append, digits-length, digits-below, read-part, part-below, unpack-packed, pack-unpacked, packed-length, unpacked-length}
 use Rattle.parts.specs.declared.settings.Settings.{Settings}
 use Rattle.parts.specs.Settings.{settings_lawful}

@@ -8,7 +8,6 @@ use borrow.Author.Tests.{lt-ltb, leb-true}
 use Rattle.wire.specs.Packets.{mode_means, pair_means, offset_fits, needs_jam_off, fits, means}
 use Rattle.wire.specs.declared.packets.ClockSource.{ClockSource}
 use Rattle.wire.specs.declared.packets.Packet.{Packet}
-use Rattle.wire.specs.declared.packets.Packet.TheVariants as Packet
 use Rattle.wire.proofs.digits.Laws.{and_both}
 use Rattle.parts.specs.declared.settings.Settings.{Settings}
 use Rattle.parts.specs.Settings.{settings_lawful, jam_fits, applied}

@@ -14,12 +14,9 @@ use borrow.Author.Tests.{lt-ltb, le-ltb, le-leb, lt-leb, leb-true, eq-eqb, ne_eq
 use Rattle.wire.specs.Digits.{pick, num, below}
 use Rattle.wire.specs.Packets.{has, place_of, body_of, frame_lines, packet_refusal, read_packet, read_framed, is_decimal, is_octal, is_sign, is_format, is_modulation, is_clock, is_generator, mode_means, pair_means, format_of, modulation_of, clock_of, generator_of, offset_of, all_decimal, ascii_values, read_number, kinds_of, of_kinds, body_lines, means, meaning, packet_read, read_as, read_body, read_pair, read_signed, fits, packet_written, writing_refusal, write_packet, row_written, bytes_of, put, put_into}
 use Rattle.wire.specs.declared.packets.Packet.{Packet}
-use Rattle.wire.specs.declared.packets.Packet.TheVariants as Packet
 use Rattle.wire.specs.declared.packets.PacketWritten.{PacketWritten}
 use Rattle.wire.specs.declared.packets.PacketRead.{PacketRead}
-use Rattle.wire.specs.declared.packets.PacketRead.TheVariants as PacketRead
 use Rattle.wire.specs.declared.packets.Number.{Number}
-use Rattle.wire.specs.declared.packets.Number.TheVariants as Number
 use Rattle.wire.proofs.digits.Laws.{lt-or-le, and_left, and_right, and_assoc, and-true, num-append, num-below}
 
 pub and-false : (t : Bool) → (t && false) ≡ false

@@ -11,7 +11,6 @@ use Rattle.wire.specs.Numbers.{Line, given, absent}
 use Rattle.wire.specs.Packets.{frame_lines, body_lines, packet_lines, packet_refusal, packet_in, needs_jam_off, packet_read, read_packet, number_read, values_of, no_values, values_read, jam_off_read}
 use Rattle.wire.specs.declared.packets.Packet.{Packet}
 use Rattle.wire.specs.declared.packets.PacketRead.{PacketRead}
-use Rattle.wire.specs.declared.packets.PacketRead.TheVariants as PacketRead
 use Rattle.wire.proofs.digits.Laws.{and_both, picked, zero_or}
 
 pub refusal-given : (row : List ℕ) → packet_refusal row ≡ given (packet_lines row)

@@ -16,20 +16,13 @@ use Rattle.wire.specs.Digits.{pick, digits, num, below}
 use Rattle.wire.specs.Numbers.{◌if◌, given, quiet, absent}
 use Rattle.wire.specs.Packets.{has, place_of, body_of, frame_lines, body_lines, packet_refusal, read_packet, read_framed, read_body, packet_read, read_as, kinds_of, of_kinds, meaning, means, needs_jam_off, fits, pair_means, is_decimal, is_octal, is_sign, is_format, is_modulation, is_clock, is_generator, all_decimal, ascii_values, ascii, sign_of, signed, offset_of, read_number, read_signed, read_pair, format_of, modulation_of, clock_of, generator_of, letter_of_format, letter_of_modulation, letter_of_clock, letter_of_generator, id_of, data_of, framed, bytes_of, packet_lines, packet_in, packet_written, writing_refusal, write_packet, row_written, minus_zero, Holds}
 use Rattle.wire.specs.declared.packets.Number.{Number}
-use Rattle.wire.specs.declared.packets.Number.TheVariants as Number
 use Rattle.wire.specs.declared.packets.Format.{Format}
-use Rattle.wire.specs.declared.packets.Format.TheVariants as Format
 use Rattle.wire.specs.declared.packets.Modulation.{Modulation}
-use Rattle.wire.specs.declared.packets.Modulation.TheVariants as Modulation
 use Rattle.wire.specs.declared.packets.ClockSource.{ClockSource}
-use Rattle.wire.specs.declared.packets.ClockSource.TheVariants as ClockSource
 use Rattle.wire.specs.declared.packets.Generator.{Generator}
-use Rattle.wire.specs.declared.packets.Generator.TheVariants as Generator
 use Rattle.wire.specs.declared.packets.Packet.{Packet}
 use Rattle.wire.specs.declared.packets.PacketWritten.{PacketWritten}
-use Rattle.wire.specs.declared.packets.Packet.TheVariants as Packet
 use Rattle.wire.specs.declared.packets.PacketRead.{PacketRead}
-use Rattle.wire.specs.declared.packets.PacketRead.TheVariants as PacketRead
 use Rattle.wire.proofs.digits.Laws.{lt-or-le, and_left, and_right, or_left, or_right, picked, zero_or, below_both, digits-below, digits-length, written, read, clash}
 use Rattle.wire.proofs.numbers.Laws.{given-zero, quiet-first}
 use Rattle.wire.proofs.packets.Read.{is-by, read_is, read_as_lem}

@@ -1,6 +1,6 @@
 -- `blocks::store_row` meets its contract. The invariant: the bytes before place i of the row are stored. The measure is what is left of them.
 -- Assumes nothing.
-use Prim.Native.Nat.{ℕ, ◌-◌, ◌≤◌}
+use Prim.Native.Nat.{ℕ}
 use mathlib.Core.Path.{◌≡◌, ap, ◌∙◌}
 use native.Mathlib.Omega.{arith}
 use lib.Seq.{paste, paste-zero}

@@ -1,10 +1,8 @@
 -- `blocks::store_row` meets its contract. The invariant: the bytes before place i of the row are stored. The measure is what is left of them.
 -- Assumes nothing.
-use Prim.Native.Nat.{ℕ, ◌-◌, ◌≤◌}
-use mathlib.Core.Path.{◌≡◌, ap, ◌∙◌}
-use native.Mathlib.Omega.{arith}
-use lib.Seq.{paste, paste-zero}
-use Rattle.card.proofs.blocks.Laws.{stored_more}
+use Prim.Native.Nat.{◌-◌, ◌≤◌}
+use mathlib.Core.Path.{◌≡◌}
+use lib.Seq.{paste}
 use Rattle.card.proofs.blocks.store_row.Given as goal
 
 abbrev pub invariant-loop-i : goal.invariant-loop-i

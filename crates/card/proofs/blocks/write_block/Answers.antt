@@ -1,13 +1,13 @@
 -- `blocks::write_block` meets its contract: refused by 18, or as many bytes stored as find a free place.
 -- Assumes nothing.
-use Prim.Native.Nat.{ℕ, ◌≤◌}
+use Prim.Native.Nat.{◌≤◌}
 use mathlib.Core.Path.{◌≡◌, sym, ◌∙◌}
 use native.Mathlib.Omega.{arith}
 use lib.ListN.{length}
 use Rattle.wire.proofs.digits.Laws.{below_each}
 use Rattle.card.proofs.registers.Laws.{queue-within}
 use Rattle.card.proofs.blocks.Laws.{block-18, block_3, block_0}
-use borrow.Author.Rules.{rules, length_unmapped}
+use borrow.Author.Rules.{rules}
 use Rattle.card.proofs.blocks.write_block.Goals as goal
 use Rattle.card.proofs.blocks.write_block.Goals.{then-free-row, else-free-row}
 
@@ -31,9 +31,9 @@ returns-after-free-row c =
     let k = sym c.is_lawful.ensures ∙ c.if-is_lawful.true in
     let l : length a.card.queue.bytes ≡ 64 = search rules in
     let s = below_each 256 a.row.now (λ i. omega (arith, c.shared_slice_known-1.given i)) in
-    elim c.if-free-row.branch
-    [ then-free-row w ↦ block_3 a.card a.row.now k l s _ _ _ c.store_row.ensures w.if-free-row.true w.number-is w.taken-is
-    | else-free-row w ↦ block_0 a.card a.row.now k l s _ _ _ c.store_row.ensures w.if-free-row.false w.number-is w.taken-is
+    elim c.if-free-row.branch [
+      | then-free-row w ↦ block_3 a.card a.row.now k l s _ _ _ c.store_row.ensures w.if-free-row.true w.number-is w.taken-is
+      | else-free-row w ↦ block_0 a.card a.row.now k l s _ _ _ c.store_row.ensures w.if-free-row.false w.number-is w.taken-is
     ]
 
 pub returns-else-is_lawful : goal.returns-else-is_lawful

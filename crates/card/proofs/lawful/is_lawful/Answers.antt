@@ -1,9 +1,7 @@
 -- `lawful::is_lawful` meets its contract: the clock decides, and then the rest.
 -- Assumes nothing.
 use mathlib.Core.Path.{sym, ◌∙◌}
-use borrow.Author.Tests.{not-true, not-false}
 use Rattle.card.proofs.lawful.Laws.{clock-lawful, clock-unlawful}
-use borrow.Author.Rules.{rules}
 use Rattle.card.proofs.lawful.is_lawful.Goals as goal
 
 pub returns-then-not-clock_fits : goal.returns-then-not-clock_fits

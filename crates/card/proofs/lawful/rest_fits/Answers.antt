@@ -1,9 +1,7 @@
 -- `lawful::rest_fits` meets its contract: each return is decided by the tests that led there.
 -- Assumes nothing.
 use mathlib.Core.Path.{sym, ◌∙◌}
-use borrow.Author.Tests.{not-true, not-false}
 use Rattle.card.proofs.lawful.Laws.{rest-parts}
-use borrow.Author.Rules.{rules}
 use Rattle.card.proofs.lawful.rest_fits.Goals as goal
 
 pub returns-then-not-interrupts_fit : goal.returns-then-not-interrupts_fit

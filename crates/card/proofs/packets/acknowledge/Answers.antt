@@ -4,7 +4,6 @@ use native.Mathlib.Nat.{div-one}
 use borrow.Author.Tests.{eq-eqb, ne_eqb}
 use Rattle.card.proofs.packets.Laws.{takes_all}
 use Rattle.card.specs.Packets.{acknowledged}
-use borrow.Author.Rules.{rules}
 use Rattle.card.proofs.packets.acknowledge.Goals as goal
 
 pub returns-then-value-eq1 : goal.returns-then-value-eq1

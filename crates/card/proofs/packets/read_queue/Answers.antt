@@ -3,9 +3,8 @@
 use Prim.Native.Nat.{ℕ, ◌-◌}
 use mathlib.Core.Path.{◌≡◌, ap, ◌∙◌}
 use native.Mathlib.Omega.{arith}
-use lib.ListN.{length, take}
+use lib.ListN.{take}
 use Rattle.wire.specs.Packets.{read_packet}
-use borrow.Author.Rules.{rules}
 use Rattle.card.proofs.packets.read_queue.Goals as goal
 
 pub returns : goal.returns

@@ -2,7 +2,6 @@
 -- Assumes nothing.
 use mathlib.Core.Path.{sym, ◌∙◌}
 use Rattle.card.proofs.packets.Laws.{taken_is, taken-25, taken_refused}
-use borrow.Author.Rules.{rules}
 use Rattle.card.proofs.packets.take.Goals as goal
 
 pub returns-then-jam-needs_jam_off : goal.returns-then-jam-needs_jam_off

@@ -3,7 +3,6 @@
 use mathlib.Core.Path.{refl, sym, ap, ◌∙◌}
 use Rattle.parts.specs.Events.{edge_taken}
 use Rattle.card.proofs.registers.Laws.{time-lawful, words-now, edge-18, edge-matched, edge_other}
-use borrow.Author.Rules.{rules}
 use Rattle.card.proofs.registers.input_edge.Goals as goal
 
 pub returns-then-is_matching : goal.returns-then-is_matching

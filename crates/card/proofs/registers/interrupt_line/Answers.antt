@@ -1,9 +1,7 @@
 -- `registers::interrupt_line` meets its contract: refused, up or down.
 -- Assumes nothing.
 use mathlib.Core.Path.{sym, ◌∙◌}
-use borrow.Author.Tests.{not-true, not-false}
 use Rattle.card.proofs.registers.Laws.{line-18, line-up, line-down}
-use borrow.Author.Rules.{rules}
 use Rattle.card.proofs.registers.interrupt_line.Goals as goal
 
 pub returns-then-not-is_lawful : goal.returns-then-not-is_lawful

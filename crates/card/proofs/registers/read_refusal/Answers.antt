@@ -1,6 +1,6 @@
 -- `registers::read_refusal` meets its contract: each return is decided by the tests that led there.
 -- Assumes nothing.
-use borrow.Author.Tests.{lt-ltb, le-ltb, eq-eqb, ne_eqb, not-true, not-false}
+use borrow.Author.Tests.{lt-ltb, le-ltb, eq-eqb, ne_eqb}
 use Rattle.card.specs.Registers.{read_refusal}
 use Rattle.card.proofs.registers.read_refusal.Goals as goal
 

@@ -1,7 +1,6 @@
 -- `registers::read_register` meets its contract: refused, latched or shown.
 -- Assumes nothing.
 use Rattle.card.proofs.registers.Laws.{time-lawful, read-lawful, read-refused, read-latches, read-shows}
-use borrow.Author.Rules.{rules}
 use Rattle.card.proofs.registers.read_register.Goals as goal
 
 pub returns-then-number-ne-DONE : goal.returns-then-number-ne-DONE

@@ -5,7 +5,6 @@ use mathlib.Core.Bool.{Bool}
 use Rattle.wire.specs.Digits.{pick}
 use Rattle.card.specs.Registers.{shown}
 use Rattle.card.proofs.registers.Laws.{shows-time, shows-event, shows-missed}
-use borrow.Author.Rules.{rules}
 use Rattle.card.proofs.registers.show.Goals as goal
 
 pub returns-then-reg-eq0 : goal.returns-then-reg-eq0

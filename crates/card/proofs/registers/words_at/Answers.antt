@@ -2,7 +2,6 @@
 -- Assumes nothing.
 use mathlib.Core.Path.{◌∙◌}
 use Rattle.card.proofs.registers.Laws.{words-now}
-use borrow.Author.Rules.{rules}
 use Rattle.card.proofs.registers.words_at.Goals as goal
 
 pub returns : goal.returns

@@ -3,7 +3,6 @@
 use mathlib.Core.Path.{sym, ◌∙◌}
 use native.Mathlib.Omega.{arith}
 use Rattle.card.proofs.registers.Laws.{queue-room, fifo-18, fifo-3, fifo-joins}
-use borrow.Author.Rules.{rules}
 use Rattle.card.proofs.registers.write_fifo.Goals as goal
 
 pub store-requires : goal.store-requires

@@ -8,7 +8,6 @@ use Rattle.parts.specs.declared.interrupts.Interrupts.{Interrupts}
 use Rattle.card.specs.Cards.{answer, with_time_latch, with_event, with_interrupts}
 use Rattle.card.specs.Registers.{written}
 use Rattle.card.proofs.registers.Laws.{time-lawful, queue-within, write-lawful, write-refused, write_done, write-gives, writes-interrupts}
-use borrow.Author.Rules.{rules}
 use Rattle.card.proofs.registers.write_other.Goals as goal
 
 pub words_at-words-requires : goal.words_at-words-requires

@@ -1,6 +1,6 @@
 -- `registers::write_refusal` meets its contract: each return is decided by the tests that led there.
 -- Assumes nothing.
-use borrow.Author.Tests.{lt-ltb, eq-eqb, ne_eqb, not-true, not-false}
+use borrow.Author.Tests.{lt-ltb, eq-eqb, ne_eqb}
 use Rattle.card.specs.Registers.{write_refusal}
 use Rattle.card.proofs.registers.Laws.{write-2, write-3, write-0}
 use Rattle.card.proofs.registers.write_refusal.Goals as goal

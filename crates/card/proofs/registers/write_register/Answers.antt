@@ -3,7 +3,6 @@
 use Prim.Native.Nat.{ℕ}
 use mathlib.Core.Path.{sym, ap, ◌∙◌}
 use Rattle.card.specs.Registers.{write_register}
-use borrow.Author.Rules.{rules}
 use Rattle.card.proofs.registers.write_register.Goals as goal
 
 pub returns-then-reg-eq13 : goal.returns-then-reg-eq13

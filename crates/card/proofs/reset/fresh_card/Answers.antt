@@ -1,7 +1,6 @@
 -- `reset::fresh_card` meets its contract: a reset card.
 -- Assumes nothing.
 use Rattle.card.specs.Reset.{fresh_card}
-use borrow.Author.Rules.{rules}
 use Rattle.card.proofs.reset.fresh_card.Goals as goal
 
 pub returns : goal.returns

@@ -1,10 +1,8 @@
 -- `reset::reset` meets its contract: 18 or done.
 -- Assumes nothing.
 use mathlib.Core.Path.{sym, ◌∙◌}
-use borrow.Author.Tests.{not-true, not-false}
 use Rattle.card.specs.Cards.{granted}
 use Rattle.card.specs.Reset.{reset}
-use borrow.Author.Rules.{rules}
 use Rattle.card.proofs.reset.reset.Goals as goal
 
 pub returns-then-not-is_lawful : goal.returns-then-not-is_lawful

@@ -1,7 +1,6 @@
 -- `reset::reset_card` meets its contract: field by field.
 -- Assumes nothing.
 use mathlib.Core.Path.{refl}
-use borrow.Author.Rules.{rules}
 use Rattle.card.proofs.reset.reset_card.Goals as goal
 
 pub returns : goal.returns

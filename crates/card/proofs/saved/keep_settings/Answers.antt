@@ -1,9 +1,7 @@
 -- `saved::keep_settings` meets its contract: 25, or the card with these settings.
 -- Assumes nothing.
 use mathlib.Core.Path.{sym, ◌∙◌}
-use borrow.Author.Tests.{not-true, not-false}
 use Rattle.card.specs.Cards.{granted}
-use borrow.Author.Rules.{rules}
 use Rattle.card.proofs.saved.keep_settings.Goals as goal
 
 pub returns-then-not-jam_fits : goal.returns-then-not-jam_fits

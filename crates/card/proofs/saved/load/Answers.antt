@@ -1,10 +1,8 @@
 -- `saved::load` meets its contract: each return is decided by the card and by what the bytes are loaded as.
 -- Assumes nothing.
 use mathlib.Core.Path.{sym, ◌∙◌}
-use borrow.Author.Tests.{not-true, not-false}
 use Rattle.parts.specs.declared.saved.SettingsRead.TheVariants as SettingsRead
 use Rattle.card.proofs.saved.Calls.{load-18, load_read}
-use borrow.Author.Rules.{rules}
 use Rattle.card.proofs.saved.load.Goals as goal
 
 pub returns-then-not-is_lawful : goal.returns-then-not-is_lawful

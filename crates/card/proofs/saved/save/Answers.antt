@@ -1,9 +1,7 @@
 -- `saved::save` meets its contract: 18, or the settings are put.
 -- Assumes nothing.
 use mathlib.Core.Path.{sym, ◌∙◌}
-use borrow.Author.Tests.{not-true, not-false}
 use Rattle.card.proofs.saved.Calls.{save-18, save-puts}
-use borrow.Author.Rules.{rules}
 use Rattle.card.proofs.saved.save.Goals as goal
 
 pub returns-then-not-is_lawful : goal.returns-then-not-is_lawful

@@ -3,7 +3,6 @@
 use mathlib.Core.Path.{ap, ◌∙◌}
 use Rattle.card.specs.Setting.{set_periodic, on_clock}
 use Rattle.card.proofs.setting.Laws.{on-clock}
-use borrow.Author.Rules.{rules}
 use Rattle.card.proofs.setting.set_periodic.Goals as goal
 
 pub returns : goal.returns

@@ -1,10 +1,8 @@
 -- `setting::switch_jam` meets its contract: 18, 25, or done.
 -- Assumes nothing.
 use mathlib.Core.Path.{sym, ◌∙◌}
-use borrow.Author.Tests.{not-true, not-false}
 use Rattle.card.specs.Cards.{granted}
 use Rattle.card.specs.Setting.{switch_jam}
-use borrow.Author.Rules.{rules}
 use Rattle.card.proofs.setting.switch_jam.Goals as goal
 
 pub returns-then-not-is_lawful : goal.returns-then-not-is_lawful

@@ -1,9 +1,7 @@
 -- `setting::with_clock` meets its contract: 18, or what the clock answered.
 -- Assumes nothing.
 use mathlib.Core.Path.{sym, ◌∙◌}
-use borrow.Author.Tests.{not-true, not-false}
 use Rattle.card.specs.Setting.{on_clock}
-use borrow.Author.Rules.{rules}
 use Rattle.card.proofs.setting.with_clock.Goals as goal
 
 pub returns-then-not-rest_fits : goal.returns-then-not-rest_fits

@@ -1,9 +1,7 @@
 -- `waiting::wait` meets its contract: 18 where the card is not lawful elsewhere, and else what its clock answers.
 -- Assumes nothing.
 use mathlib.Core.Path.{sym, ◌∙◌}
-use borrow.Author.Tests.{not-true, not-false}
 use Rattle.card.proofs.waiting.Laws.{unlawful, passes}
-use borrow.Author.Rules.{rules}
 use Rattle.card.proofs.waiting.wait.Goals as goal
 
 pub returns-then-not-rest_fits : goal.returns-then-not-rest_fits

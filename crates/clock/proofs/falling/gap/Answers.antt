@@ -3,7 +3,6 @@
 use native.Mathlib.Nat.{mod-lt}
 use native.Mathlib.Omega.{arith}
 use Rattle.clock.proofs.falling.Laws.{gap-low, gap-high}
-use borrow.Author.Rules.{rules}
 use Rattle.clock.proofs.falling.gap.Goals as goal
 
 pub overflow_sub-result-else-m-r : goal.overflow_sub-result-else-m-r

@@ -2,7 +2,6 @@
 -- Assumes nothing.
 use Rattle.clock.proofs.falling.Laws.{divides, periodic-off, periodic-every}
 use native.Mathlib.Omega.{arith}
-use borrow.Author.Rules.{rules}
 use Rattle.clock.proofs.falling.periodic_source.Goals as goal
 
 pub overflow_mul-period : goal.overflow_mul-period

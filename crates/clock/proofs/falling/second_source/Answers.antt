@@ -2,7 +2,6 @@
 -- Assumes nothing.
 use Rattle.clock.proofs.time.Laws.{in-range}
 use Rattle.clock.proofs.falling.Laws.{second-rhythm}
-use borrow.Author.Rules.{rules}
 use Rattle.clock.proofs.falling.second_source.Goals as goal
 
 pub returns : goal.returns

@@ -1,7 +1,6 @@
 -- `falling::sources_from` meets its contract, source by source.
 -- Assumes nothing.
 use Rattle.clock.proofs.lawful.Laws.{parts}
-use borrow.Author.Rules.{rules}
 use Rattle.clock.proofs.falling.sources_from.Goals as goal
 
 pub second_source-second-requires : goal.second_source-second-requires

@@ -3,7 +3,6 @@
 use native.Mathlib.Omega.{arith}
 use Rattle.clock.proofs.time.Laws.{in-range}
 use Rattle.clock.proofs.falling.Laws.{strobe-off, strobe-daily, strobe-each, daily-range, each-range}
-use borrow.Author.Rules.{rules}
 use Rattle.clock.proofs.falling.strobe_source.Goals as goal
 
 pub gap-requires : goal.gap-requires

@@ -1,9 +1,7 @@
 -- `lawful::clock_fits` meets its contract: each return is decided by the tests that led there.
 -- Assumes nothing.
 use mathlib.Core.Path.{sym, ◌∙◌}
-use borrow.Author.Tests.{not-true, not-false}
 use Rattle.clock.specs.Clocks.{clock_lawful}
-use borrow.Author.Rules.{rules}
 use Rattle.clock.proofs.lawful.clock_fits.Goals as goal
 
 pub returns-then-not-time_fits : goal.returns-then-not-time_fits

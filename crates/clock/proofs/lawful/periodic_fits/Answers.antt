@@ -2,7 +2,6 @@
 -- Assumes nothing.
 use mathlib.Core.Path.{sym, ap, ◌∙◌}
 use Rattle.clock.specs.Falling.{periodic_lawful}
-use borrow.Author.Rules.{rules}
 use Rattle.clock.proofs.lawful.periodic_fits.Goals as goal
 
 pub returns-in-Off : goal.returns-in-Off

@@ -2,7 +2,6 @@
 -- Assumes nothing.
 use borrow.Author.Tests.{le-leb, lt-leb}
 use Rattle.clock.specs.Time.{time_lawful}
-use borrow.Author.Rules.{rules}
 use Rattle.clock.proofs.lawful.time_fits.Goals as goal
 
 pub returns-then-t-lt1 : goal.returns-then-t-lt1

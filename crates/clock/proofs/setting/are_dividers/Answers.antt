@@ -2,7 +2,6 @@
 -- Assumes nothing.
 use mathlib.Core.Path.{sym, ap, ◌∙◌}
 use Rattle.clock.specs.Setting.{dividers_fit}
-use borrow.Author.Rules.{rules}
 use Rattle.clock.proofs.setting.are_dividers.Goals as goal
 
 pub returns-in-Off : goal.returns-in-Off

@@ -2,7 +2,6 @@
 -- Assumes nothing.
 use borrow.Author.Tests.{le-leb, lt-leb}
 use Rattle.clock.specs.Setting.{date_fits}
-use borrow.Author.Rules.{rules}
 use Rattle.clock.proofs.setting.is_date.Goals as goal
 
 pub returns-then-year-lt1 : goal.returns-then-year-lt1

@@ -2,7 +2,6 @@
 -- Assumes nothing.
 use mathlib.Core.Path.{sym, ap, ◌∙◌}
 use Rattle.clock.specs.Setting.{strobe_fits}
-use borrow.Author.Rules.{rules}
 use Rattle.clock.proofs.setting.is_strobe.Goals as goal
 
 pub returns-in-Off : goal.returns-in-Off

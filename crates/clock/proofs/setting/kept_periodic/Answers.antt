@@ -4,7 +4,6 @@ use mathlib.Core.Path.{sym, ap}
 use native.Mathlib.Omega.{arith}
 use Rattle.clock.specs.Setting.{periodic_kept}
 use Rattle.clock.proofs.setting.Laws.{dividers-within}
-use borrow.Author.Rules.{rules}
 use Rattle.clock.proofs.setting.kept_periodic.Goals as goal
 
 pub overflow_cast-result : goal.overflow_cast-result

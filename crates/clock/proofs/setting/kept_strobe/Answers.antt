@@ -4,7 +4,6 @@ use mathlib.Core.Path.{sym, ap}
 use native.Mathlib.Omega.{arith}
 use Rattle.clock.specs.Setting.{strobe_kept}
 use Rattle.clock.proofs.setting.Laws.{daily-within}
-use borrow.Author.Rules.{rules}
 use Rattle.clock.proofs.setting.kept_strobe.Goals as goal
 
 pub overflow_mul-result : goal.overflow_mul-result

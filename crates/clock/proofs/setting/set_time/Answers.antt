@@ -1,8 +1,6 @@
 -- `setting::set_time` meets its contract: 18, 11 or done.
 -- Assumes nothing.
 use mathlib.Core.Path.{sym, ◌∙◌}
-use borrow.Author.Tests.{not-true, not-false}
-use borrow.Author.Rules.{rules}
 use Rattle.clock.proofs.setting.set_time.Goals as goal
 
 pub returns-then-not-clock_fits : goal.returns-then-not-clock_fits

@@ -2,7 +2,6 @@
 use Prim.Native.Nat.{ℕ, ◌+◌, ◌-◌, ◌*◌, ◌/◌}
 use mathlib.Core.Path.{sym, ◌∙◌, ap}
 use native.Mathlib.Nat.{div-div-eq-div-mul}
-use borrow.Author.Rules.{rules}
 use Rattle.clock.specs.Time.{days_over, days_before}
 use Rattle.clock.proofs.time.Years.{before-is}
 use Rattle.clock.proofs.time.days_before.Goals as goal

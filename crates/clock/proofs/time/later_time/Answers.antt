@@ -1,6 +1,5 @@
 -- `time::later_time` meets its contract: within the day, into the next day, into the next year.
 -- Assumes nothing.
-use borrow.Author.Rules.{rules}
 use native.Mathlib.Omega.{arith}
 use mathlib.Core.Path.{sym}
 use Rattle.clock.proofs.time.Laws.{in-range, within-day, next-in-year, new-year}

@@ -1,7 +1,6 @@
 -- `waiting::all_past` meets its contract.
 -- Assumes nothing.
 use Rattle.clock.specs.Sources.{all_past}
-use borrow.Author.Rules.{rules}
 use Rattle.clock.proofs.waiting.all_past.Goals as goal
 
 pub returns : goal.returns

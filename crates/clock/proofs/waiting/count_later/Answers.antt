@@ -5,7 +5,6 @@ use Prim.Native.Nat.{◌+◌}
 use native.Mathlib.Nat.{mod-lt}
 use native.Mathlib.Omega.{arith}
 use Rattle.clock.specs.Waiting.{count_later}
-use borrow.Author.Rules.{rules}
 use Rattle.clock.proofs.waiting.count_later.Goals as goal
 
 pub overflow_mul-period : goal.overflow_mul-period

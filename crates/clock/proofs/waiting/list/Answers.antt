@@ -1,12 +1,8 @@
 -- `waiting::list` meets its contract. The invariant: the records up to the last one stand in the row, of whichever clock the first falls are. The measure is
 -- what is left of the row.
 -- Assumes nothing.
-use Prim.Native.Nat.{◌-◌}
-use lib.ListN.{length}
 use native.Mathlib.Omega.{arith}
-use Rattle.clock.specs.declared.clock.Clock.{Clock}
-use Rattle.clock.specs.Sources.{Ready}
-use Rattle.clock.proofs.waiting.Window.{Held, held_none, held_more, brief, filled-all, filled-full}
+use Rattle.clock.proofs.waiting.Window.{held_none, held_more, brief, filled-all, filled-full}
 use Rattle.clock.proofs.waiting.Heard as heard
 use Rattle.clock.proofs.waiting.list.Goals as goal
 

@@ -3,11 +3,9 @@
 -- Assumes nothing.
 use Prim.Native.Nat.{◌-◌}
 use lib.ListN.{length}
-use native.Mathlib.Omega.{arith}
 use Rattle.clock.specs.declared.clock.Clock.{Clock}
 use Rattle.clock.specs.Sources.{Ready}
-use Rattle.clock.proofs.waiting.Window.{Held, held_none, held_more, brief, filled-all, filled-full}
-use Rattle.clock.proofs.waiting.Heard as heard
+use Rattle.clock.proofs.waiting.Window.{Held}
 use Rattle.clock.proofs.waiting.list.Given as goal
 
 abbrev pub invariant-loop-i : goal.invariant-loop-i

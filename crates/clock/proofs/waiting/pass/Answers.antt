@@ -2,7 +2,6 @@
 -- Assumes nothing.
 use mathlib.Core.Path.{sym, ◌∙◌}
 use Rattle.clock.proofs.waiting.Answer as answer
-use borrow.Author.Rules.{rules}
 use Rattle.clock.proofs.waiting.pass.Goals as goal
 
 pub returns-then-number-ne-DONE : goal.returns-then-number-ne-DONE

@@ -1,10 +1,9 @@
 -- `waiting::pass_refusal` meets its contract: the tests in the page's order, 18, 15, 14, 16.
 -- Assumes nothing.
 use mathlib.Core.Path.{sym, ◌∙◌}
-use borrow.Author.Tests.{lt-ltb, le-ltb, eq-eqb, ne_eqb, not-true, not-false}
+use borrow.Author.Tests.{lt-ltb, le-ltb, eq-eqb, ne_eqb}
 use Rattle.clock.specs.Waiting.{pass_refusal}
 use Rattle.clock.proofs.lawful.Laws.{parts}
-use borrow.Author.Rules.{rules}
 use Rattle.clock.proofs.waiting.pass_refusal.Goals as goal
 
 pub returns-then-not-clock_fits : goal.returns-then-not-clock_fits

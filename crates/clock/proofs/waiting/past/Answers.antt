@@ -2,7 +2,6 @@
 -- Assumes nothing.
 use borrow.Author.Tests.{eq-eqb, ne_eqb}
 use Rattle.clock.specs.Sources.{past_of}
-use borrow.Author.Rules.{rules}
 use Rattle.clock.proofs.waiting.past.Goals as goal
 
 pub returns-then-s-at : goal.returns-then-s-at

@@ -1,8 +1,6 @@
 -- `waiting::record_on` meets its contract.
 -- Assumes nothing.
-use native.Mathlib.Omega.{arith}
 use Rattle.clock.specs.Sources.{marks}
-use borrow.Author.Rules.{rules}
 use Rattle.clock.proofs.waiting.record_on.Goals as goal
 
 pub returns : goal.returns

@@ -1,6 +1,5 @@
 -- `nearest::first_n1` meets its contract: 2, or the quotient.
 -- Assumes nothing.
-use borrow.Author.Rules.{rules}
 use Rattle.dividers.proofs.nearest.Going.{from-two, from-quotient}
 use Rattle.dividers.proofs.nearest.first_n1.Goals as goal
 

@@ -1,7 +1,6 @@
 -- `nearest::n2_for` meets its contract: the rounded quotient, held at both ends.
 -- Assumes nothing.
 use native.Mathlib.Omega.{arith}
-use borrow.Author.Rules.{rules}
 use Rattle.dividers.proofs.nearest.Rows.{held_low, held_high, not-held}
 use Rattle.dividers.proofs.nearest.n2_for.Goals as goal
 

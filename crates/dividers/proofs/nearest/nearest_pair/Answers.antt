@@ -1,10 +1,8 @@
 -- `nearest::nearest_pair` meets its contract: zeros outside the ends, and what the search finds between them.
 -- Assumes nothing.
-use mathlib.Core.Path.{◌≡◌, sym, ◌∙◌}
-use mathlib.Core.Bool.{true}
+use mathlib.Core.Path.{sym, ◌∙◌}
 use lib.Dec.{leb}
-use borrow.Author.Rules.{rules}
-use borrow.Author.Tests.{leb-true, not-true, not-false}
+use borrow.Author.Tests.{leb-true}
 use Rattle.wire.proofs.digits.Laws.{and_right}
 use Rattle.dividers.specs.Nearest.{wanted_fits}
 use Rattle.dividers.proofs.nearest.nearest_pair.Goals as goal

@@ -1,15 +1,14 @@
 -- `nearest::search` meets its contract. The loop's invariant: every n1 before this one is met, and this one is 65,535 at most; the measure is what is left of them.
 -- Assumes nothing.
-use Prim.Native.Nat.{ℕ, ◌<◌, ◌+◌, ◌-◌, ◌*◌, ◌≤◌}
+use Prim.Native.Nat.{ℕ, ◌<◌, ◌+◌, ◌*◌, ◌≤◌}
 use mathlib.Core.Path.{◌≡◌, refl, sym, ap, ap₂, ◌∙◌}
 use native.Mathlib.Nat.{mul-le-mul}
 use native.Mathlib.Omega.{arith}
-use borrow.Author.Rules.{rules}
 use Rattle.dividers.specs.declared.pairs.Measured.{Measured}
-use Rattle.dividers.specs.Pairs.{distance, measured, nearer}
+use Rattle.dividers.specs.Pairs.{measured, nearer}
 use Rattle.dividers.specs.Nearest.{with_n1}
 use Rattle.dividers.proofs.nearest.Laws.{row-n1, nearer-is}
-use Rattle.dividers.proofs.nearest.Going.{Met, begins, exact, goes_on_lem, distance_most, stops, goes-within}
+use Rattle.dividers.proofs.nearest.Going.{begins, exact, goes_on_lem, distance_most, stops, goes-within}
 use Rattle.dividers.proofs.nearest.search.Goals as goal
 use Rattle.dividers.proofs.nearest.search.Invariants.{Best}
 

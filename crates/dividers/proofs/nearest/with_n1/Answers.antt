@@ -1,7 +1,6 @@
 -- `nearest::with_n1` meets its contract: its n1 is the given one, and its n2 the nearest beside it.
 -- Assumes nothing.
 use mathlib.Core.Path.{sym, ap, ap₂, ◌∙◌}
-use borrow.Author.Rules.{rules}
 use Rattle.dividers.specs.Pairs.{pair, measured}
 use Rattle.dividers.proofs.pairs.Laws.{within}
 use Rattle.dividers.proofs.nearest.Laws.{row_fits, row-n1}

@@ -3,7 +3,6 @@
 use Prim.Native.Nat.{ℕ, ◌-◌}
 use mathlib.Core.Path.{ap}
 use native.Mathlib.Omega.{arith}
-use borrow.Author.Rules.{rules}
 use Rattle.dividers.specs.declared.pairs.Measured.{Measured}
 use Rattle.dividers.specs.Pairs.{pair, period, distance}
 use Rattle.dividers.proofs.pairs.Laws.{product-most}

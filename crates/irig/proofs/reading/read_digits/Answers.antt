@@ -1,6 +1,5 @@
 -- `reading::read_digits` meets its contract: the words are those that the number holds.
 -- Assumes nothing.
-use borrow.Author.Rules.{rules}
 use Rattle.irig.specs.Reading.{words_in}
 use Rattle.irig.proofs.reading.read_digits.Goals as goal
 

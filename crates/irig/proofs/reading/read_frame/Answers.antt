@@ -2,7 +2,6 @@
 -- Assumes nothing.
 use mathlib.Core.Path.{◌∙◌, sym}
 use native.Mathlib.Omega.{arith}
-use borrow.Author.Rules.{rules}
 use borrow.Author.Tests.{not-true, not-false}
 use Rattle.irig.proofs.reading.Laws.{read_short, frame-22, frame-23, frame-digits, frame-24, frame-0}
 use Rattle.irig.proofs.reading.read_frame.Goals as goal

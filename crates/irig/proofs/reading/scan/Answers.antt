@@ -1,12 +1,9 @@
 -- `reading::scan` meets its contract. The invariant: the elements before place i fit, and their number is added up. The measure is what is left of the hundred.
 -- Assumes nothing.
-use Prim.Native.Nat.{◌-◌, ◌≤◌}
 use native.Mathlib.Omega.{arith}
-use borrow.Author.Rules.{rules}
-use Rattle.irig.proofs.reading.Laws.{Scanning, scan-none, scan-marker, scan-plain, marker-missing, element-above, scan-all, shift-low, sum_fits}
+use Rattle.irig.proofs.reading.Laws.{scan-none, scan-marker, scan-plain, marker-missing, element-above, scan-all, shift-low, sum_fits}
 use Rattle.irig.proofs.reading.scan.Goals as goal
 use Rattle.irig.proofs.reading.scan.Goals.{then-shift-eq-NO_SHIFT+else-e-ne-MARKER, else-shift-eq-NO_SHIFT+else-e-gt1}
-
 
 pub loop-i-init : goal.loop-i-init
 loop-i-init c = (omega arith, scan-none _)
@@ -31,9 +28,9 @@ loop-i-preserved c =
     let p = c.shifts-shifts.ensures in
     let s = c.loop-i.invariant.1 in (
       omega arith,
-      elim c.if-shift-eq-NO_SHIFT.branch
-      [ then-shift-eq-NO_SHIFT+else-e-ne-MARKER w ↦ rw w.number-is (scan-marker _ p _ _ c.loop-i.i (omega arith) s w.if-shift-eq-NO_SHIFT.true w.if-e-ne-MARKER.false)
-      | else-shift-eq-NO_SHIFT+else-e-gt1 w ↦ rw w.number-is (scan-plain _ p _ _ c.loop-i.i (omega arith) s w.if-shift-eq-NO_SHIFT.false w.if-e-gt1.false)
+      elim c.if-shift-eq-NO_SHIFT.branch [
+        | then-shift-eq-NO_SHIFT+else-e-ne-MARKER w ↦ rw w.number-is (scan-marker _ p _ _ c.loop-i.i (omega arith) s w.if-shift-eq-NO_SHIFT.true w.if-e-ne-MARKER.false)
+        | else-shift-eq-NO_SHIFT+else-e-gt1 w ↦ rw w.number-is (scan-plain _ p _ _ c.loop-i.i (omega arith) s w.if-shift-eq-NO_SHIFT.false w.if-e-gt1.false)
       ],
     )
 

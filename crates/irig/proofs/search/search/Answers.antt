@@ -1,9 +1,7 @@
 -- `search::search` meets its contract. The invariant: what is searched is the rest of the row, behind a marker or not. The measure is that rest.
 -- Assumes nothing.
-use Prim.Native.Nat.{◌-◌}
 use native.Mathlib.Omega.{arith}
-use lib.ListN.{length}
-use Rattle.irig.proofs.search.Laws.{Searching, search-start, search-more, search-found, search-over}
+use Rattle.irig.proofs.search.Laws.{search-start, search-more, search-found, search-over}
 use Rattle.irig.proofs.search.search.Goals as goal
 
 pub loop-i-init : goal.loop-i-init

@@ -1,9 +1,8 @@
 -- `search::search` meets its contract. The invariant: what is searched is the rest of the row, behind a marker or not. The measure is that rest.
 -- Assumes nothing.
 use Prim.Native.Nat.{◌-◌}
-use native.Mathlib.Omega.{arith}
 use lib.ListN.{length}
-use Rattle.irig.proofs.search.Laws.{Searching, search-start, search-more, search-found, search-over}
+use Rattle.irig.proofs.search.Laws.{Searching}
 use Rattle.irig.proofs.search.search.Given as goal
 
 abbrev pub invariant-loop-i : goal.invariant-loop-i

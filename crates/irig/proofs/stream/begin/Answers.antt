@@ -1,6 +1,5 @@
 -- `stream::begin` meets its contract: a frame is whole in the row, or what is there of it is held.
 -- Assumes nothing.
-use borrow.Author.Rules.{rules}
 use Rattle.irig.proofs.stream.Laws.{begin-whole}
 use Rattle.irig.proofs.stream.begin.Goals as goal
 

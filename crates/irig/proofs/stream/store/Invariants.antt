@@ -1,11 +1,9 @@
 -- `stream::store` meets its contract. The invariant: the first i elements are stored. The measure is what is left of them.
 -- Assumes nothing.
-use Prim.Native.Nat.{ℕ, ◌+◌, ◌-◌, ◌≤◌}
-use mathlib.Core.Path.{◌≡◌, sym, ap, ◌∙◌}
-use native.Mathlib.Omega.{arith}
-use lib.ListN.{drop, set, length-drop}
-use lib.Seq.{paste, paste-zero, get_or-drop}
-use Rattle.card.proofs.blocks.Laws.{stored_more}
+use Prim.Native.Nat.{◌-◌, ◌≤◌}
+use mathlib.Core.Path.{◌≡◌}
+use lib.ListN.{drop}
+use lib.Seq.{paste}
 use Rattle.irig.proofs.stream.store.Given as goal
 
 abbrev pub invariant-loop-i : goal.invariant-loop-i

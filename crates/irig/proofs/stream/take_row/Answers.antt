@@ -1,11 +1,9 @@
 -- `stream::take_row` meets its contract: 18; a frame that has begun; or a search, which finds its beginning or not.
 -- Assumes nothing.
-use Prim.Native.Nat.{ℕ}
 use mathlib.Core.Path.{◌≡◌, sym, ◌∙◌}
 use native.Mathlib.Omega.{arith}
 use lib.ListN.{length}
-use borrow.Author.Rules.{rules, length_unmapped}
-use borrow.Author.Tests.{not-true, not-false}
+use borrow.Author.Rules.{rules}
 use Rattle.irig.proofs.stream.Laws.{take-18, lawful-begun, take-held, take_second, take_none, found-second, positive}
 use Rattle.irig.proofs.stream.take_row.Goals as goal
 

@@ -1,8 +1,7 @@
 -- `stream::zeros_from` meets its contract. The invariant: the elements up to place i are added up. The measure is what is left of the hundred.
 -- Assumes nothing.
-use Prim.Native.Nat.{◌-◌, ◌≤◌}
 use native.Mathlib.Omega.{arith}
-use Rattle.irig.proofs.stream.Laws.{Zeros, zeros-none, zeros-more, zeros-all}
+use Rattle.irig.proofs.stream.Laws.{zeros-none, zeros-more, zeros-all}
 use Rattle.irig.proofs.stream.zeros_from.Goals as goal
 
 pub loop-i-init : goal.loop-i-init

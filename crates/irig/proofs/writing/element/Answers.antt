@@ -1,6 +1,5 @@
 -- `writing::element` meets its contract: a marker, or the bit at its place.
 -- Assumes nothing.
-use borrow.Author.Rules.{rules}
 use borrow.Author.Tests.{eq-eqb, ne_eqb}
 use Rattle.irig.specs.Table.{digit_of}
 use Rattle.irig.specs.Writing.{element_at}

@@ -1,7 +1,6 @@
 -- `writing::number_of` meets its contract: words of 16 bits, and the seconds above them.
 -- Assumes nothing.
 use native.Mathlib.Omega.{arith}
-use borrow.Author.Rules.{rules}
 use Rattle.irig.proofs.writing.Laws.{number-holds, number_small}
 use Rattle.irig.proofs.writing.number_of.Goals as goal
 

@@ -1,10 +1,7 @@
 -- `writing::put_elements` meets its contract. The invariant: the elements before place i are put. The measure is what is left of the hundred.
 -- Assumes nothing.
 use Prim.Native.Nat.{◌-◌, ◌≤◌}
-use native.Mathlib.Omega.{arith}
-use borrow.Author.Rules.{rules}
-use Rattle.irig.proofs.table.Laws.{shift-most}
-use Rattle.irig.proofs.writing.Laws.{Put, put-none, put-more, put_all}
+use Rattle.irig.proofs.writing.Laws.{Put}
 use Rattle.irig.proofs.writing.put_elements.Given as goal
 
 abbrev pub invariant-loop-i : goal.invariant-loop-i

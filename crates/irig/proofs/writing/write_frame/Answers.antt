@@ -1,8 +1,6 @@
 -- `writing::write_frame` meets its contract: 18, 14, or the elements of the card's time.
 -- Assumes nothing.
 use mathlib.Core.Path.{◌∙◌, sym}
-use borrow.Author.Rules.{rules}
-use borrow.Author.Tests.{not-true, not-false}
 use Rattle.irig.proofs.writing.Laws.{time-writable, write-18, write-14, write-0}
 use Rattle.irig.proofs.writing.write_frame.Goals as goal
 

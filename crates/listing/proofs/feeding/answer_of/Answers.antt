@@ -4,7 +4,6 @@ use mathlib.Core.Path.{ap, ◌∙◌}
 use Rattle.card.specs.declared.card.Card.{Card}
 use Rattle.card.specs.declared.card.Answer.{Answer}
 use Rattle.card.specs.Registers.{write_register}
-use borrow.Author.Rules.{rules}
 use Rattle.listing.proofs.feeding.answer_of.Goals as goal
 
 pub returns : goal.returns

@@ -1,9 +1,8 @@
 -- `feeding::end_of` meets its contract. The invariant: no end among the i bytes that were looked at. The measure is what is left of the input.
 -- Assumes nothing.
 use Prim.Native.Nat.{◌-◌}
-use native.Mathlib.Omega.{arith}
 use lib.ListN.{length}
-use Rattle.listing.proofs.feeding.Ends.{Looked, looked-none, looked-last, looked-more, looked-all}
+use Rattle.listing.proofs.feeding.Ends.{Looked}
 use Rattle.listing.proofs.feeding.end_of.Given as goal
 
 abbrev pub invariant-loop-i : goal.invariant-loop-i

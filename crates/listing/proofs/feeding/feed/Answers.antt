@@ -1,7 +1,6 @@
 -- `feeding::feed` meets its contract: nothing, or as `feed_held` has it.
 -- Assumes nothing.
 use Rattle.listing.proofs.feeding.Whole.{feed-none, feed-some}
-use borrow.Author.Rules.{rules}
 use Rattle.listing.proofs.feeding.feed.Goals as goal
 
 pub returns-then-bench-gt40 : goal.returns-then-bench-gt40

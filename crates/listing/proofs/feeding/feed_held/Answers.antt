@@ -1,18 +1,14 @@
 -- `feeding::feed_held` meets its contract: no byte is taken, all join the ones held, or they end the piece, and what is behind it is fed.
 -- Assumes nothing.
-use Prim.Native.Nat.{ℕ, ◌+◌, ◌-◌, ◌≤◌}
+use Prim.Native.Nat.{ℕ, ◌-◌, ◌≤◌}
 use mathlib.Core.Path.{◌≡◌, refl, sym, ap, ◌∙◌}
-use mathlib.Core.Bool.{true}
-use mathlib.Core.List.{List, [], ◌∷◌, ◌++◌}
+use mathlib.Core.List.{List}
 use native.Mathlib.Omega.{arith}
 use lib.ListN.{length, take, drop, length-drop}
-use borrow.Author.Tests.{not-true, not-false}
-use Rattle.parts.specs.Queues.{queued}
-use Rattle.listing.specs.Listing.{goes_on, end_of, Lined}
-use Rattle.listing.proofs.feeding.Ends.{Ended, ended_at}
+use Rattle.listing.specs.Listing.{end_of}
+use Rattle.listing.proofs.feeding.Ends.{ended_at}
 use Rattle.listing.proofs.feeding.Going.{behind-all, lined-length}
 use Rattle.listing.proofs.feeding.Whole.{whole-within, held-off, held_more, held-ends, ended-fill, ended-lined}
-use borrow.Author.Rules.{rules}
 use Rattle.listing.proofs.feeding.feed_held.Goals as goal
 
 -- the bytes held are no more than a piece can have before its end

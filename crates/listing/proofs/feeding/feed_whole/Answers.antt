@@ -10,8 +10,7 @@ use Rattle.card.specs.declared.card.Card.{Card}
 use Rattle.laws.specs.Calls.{fed}
 use Rattle.listing.specs.Listing.{goes_on}
 use Rattle.listing.proofs.feeding.Going.{next-goes, next-within, behind-all, lined-length}
-use Rattle.listing.proofs.feeding.Whole.{Stopped, listed, whole-held, whole-over}
-use borrow.Author.Rules.{rules}
+use Rattle.listing.proofs.feeding.Whole.{listed, whole-held, whole-over}
 use Rattle.listing.proofs.feeding.feed_whole.Goals as goal
 
 -- whether a line more could be put

@@ -2,9 +2,7 @@
 -- Assumes nothing.
 use mathlib.Core.Path.{sym, ◌∙◌}
 use native.Mathlib.Omega.{arith}
-use borrow.Author.Tests.{not-true, not-false}
 use Rattle.listing.proofs.feeding.Whole.{last_none, last-long, last_off, last-held}
-use borrow.Author.Rules.{rules}
 use Rattle.listing.proofs.feeding.finish.Goals as goal
 
 pub returns-then-queue-gt40 : goal.returns-then-queue-gt40

@@ -5,7 +5,6 @@ use native.Mathlib.Omega.{arith}
 use Rattle.wire.proofs.digits.Laws.{below_each}
 use Rattle.card.specs.declared.blocks.BlockAnswer.{BlockAnswer}
 use Rattle.laws.proofs.Blocks.{block-fed}
-use borrow.Author.Rules.{rules}
 use Rattle.listing.proofs.feeding.hold.Goals as goal
 
 pub returns : goal.returns

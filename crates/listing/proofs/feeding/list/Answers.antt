@@ -1,19 +1,18 @@
 -- `feeding::list` meets its contract. The invariant: the lines of the pieces before place i stand in the row, n bytes from there are the next one, and the digits
 -- are those of its number. The measure is what is left of the input. Assumes nothing.
-use Prim.Native.Nat.{ℕ, ◌+◌, ◌-◌, ◌≤◌, ◌<◌}
+use Prim.Native.Nat.{ℕ, ◌+◌, ◌-◌}
 use mathlib.Core.Path.{◌≡◌, ap, ap₂, ◌∙◌}
 use mathlib.Core.List.{List}
 use native.Mathlib.Numerals.{add-one}
 use native.Mathlib.Omega.{arith}
-use lib.ListN.{length, take}
+use lib.ListN.{take}
 use Rattle.card.specs.declared.card.Card.{Card}
 use Rattle.card.specs.Registers.{write_register}
 use Rattle.card.specs.Reset.{fresh_card}
 use Rattle.laws.specs.Calls.{fed}
-use Rattle.listing.specs.Listing.{answer_of, next_end, Spelled}
+use Rattle.listing.specs.Listing.{answer_of, next_end}
 use Rattle.listing.proofs.lines.Counting.{begun, own, not-all-nines, next, lined}
-use Rattle.listing.proofs.feeding.Going.{Turn, turn-first, turn_more, turn_last, goes_number, goes-room, behind-all}
-use borrow.Author.Rules.{rules}
+use Rattle.listing.proofs.feeding.Going.{turn-first, turn_more, turn_last, goes_number, goes-room, behind-all}
 use Rattle.listing.proofs.feeding.list.Goals as goal
 
 -- the answer of the next piece
@@ -48,8 +47,7 @@ loop-n-smaller c = omega (arith, c.loop-n.invariant.0.within)
 
 pub loop-n-preserved : goal.loop-n-preserved
 loop-n-preserved c =
-    let l = c.loop-n in
-    (
+    let l = c.loop-n in (
       turn_more _ _ _ _ _ _ _ _ _ _ l.invariant.0 c.loop-n-test.true _
           (answers _ _ _ _ _ c.answer_of-answer.ensures c.requires.0 (let e : l.i + l.n - l.i ≡ l.n = omega arith in e))
           _ _ (lined _ _ _ l.invariant.1 _ _ _ _ _ c.put_line-written.ensures) _

@@ -7,7 +7,7 @@ use lib.ListN.{length, take}
 use lib.Seq.{length-take-le}
 use Rattle.listing.specs.Listing.{goes_on}
 use Rattle.listing.proofs.feeding.Whole.{held-listed}
-use borrow.Author.Rules.{rules, length_unmapped}
+use borrow.Author.Rules.{rules}
 use Rattle.listing.proofs.feeding.list_held.Goals as goal
 
 pub list-requires : goal.list-requires

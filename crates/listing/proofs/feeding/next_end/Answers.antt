@@ -2,7 +2,6 @@
 -- Assumes nothing.
 use mathlib.Core.Path.{sym, ◌∙◌}
 use Rattle.listing.specs.Listing.{next_end}
-use borrow.Author.Rules.{rules}
 use Rattle.listing.proofs.feeding.next_end.Goals as goal
 
 pub returns-then-goes_on : goal.returns-then-goes_on

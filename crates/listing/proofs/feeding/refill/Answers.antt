@@ -7,7 +7,7 @@ use lib.ListN.{length, take}
 use lib.Seq.{length-take-le}
 use Rattle.card.specs.declared.card.Card.{Card}
 use Rattle.laws.specs.Calls.{fed}
-use borrow.Author.Rules.{rules, length_unmapped}
+use borrow.Author.Rules.{rules}
 use Rattle.listing.proofs.feeding.refill.Goals as goal
 
 pub returns : goal.returns

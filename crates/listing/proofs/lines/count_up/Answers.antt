@@ -1,7 +1,7 @@
 -- `lines::count_up` meets its contract: the nines behind place i are zeros. The measure is i: not all digits are nines, so it stays a place.
 -- Assumes nothing.
 use native.Mathlib.Omega.{arith}
-use Rattle.listing.proofs.lines.Counting.{Carried, carried_none, carried-inside, carried-more, carried-small, counted-before, counted-within}
+use Rattle.listing.proofs.lines.Counting.{carried_none, carried-inside, carried-more, carried-small, counted-before, counted-within}
 use Rattle.listing.proofs.lines.count_up.Goals as goal
 
 pub loop-digits-init : goal.loop-digits-init

@@ -1,7 +1,7 @@
 -- `lines::digits_of` meets its contract: the digits are found from the last one on. The measure is the number of digits that are left.
 -- Assumes nothing.
 use native.Mathlib.Omega.{arith}
-use Rattle.listing.proofs.lines.Counting.{Divided, divided-none, divided-more, divided-all}
+use Rattle.listing.proofs.lines.Counting.{divided-none, divided-more, divided-all}
 use Rattle.listing.proofs.lines.digits_of.Goals as goal
 
 pub loop-i-init : goal.loop-i-init

@@ -1,9 +1,6 @@
 -- `lines::first_of` meets its contract: only zeros stand before place i. The measure is what is left up to the last place.
 -- Assumes nothing.
-use Prim.Native.Nat.{◌-◌, ◌≤◌}
-use mathlib.Core.Path.{◌≡◌, refl}
 use native.Mathlib.Omega.{arith}
-use lib.ListN.{take, replicate}
 use Rattle.listing.proofs.lines.Counting.{one-more-zero}
 use Rattle.listing.proofs.lines.first_of.Goals as goal
 

@@ -1,6 +1,5 @@
 -- `lines::put_byte` meets its contract: one store.
 -- Assumes nothing.
-use borrow.Author.Rules.{rules}
 use Rattle.listing.proofs.lines.Laws.{stored_one}
 use Rattle.listing.proofs.lines.put_byte.Goals as goal
 

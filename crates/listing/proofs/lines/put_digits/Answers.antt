@@ -1,10 +1,9 @@
 -- `lines::put_digits` meets its contract: the digits before place i are put. The measure is what is left of them.
 -- Assumes nothing.
-use Prim.Native.Nat.{◌-◌}
 use native.Mathlib.Omega.{arith}
 use lib.ListN.{length-drop}
 use Rattle.wire.proofs.digits.Laws.{below_at}
-use Rattle.listing.proofs.lines.Laws.{Copied, copied_none, copied-place, copied-length, copied_more, copied_all}
+use Rattle.listing.proofs.lines.Laws.{copied_none, copied-place, copied-length, copied_more, copied_all}
 use Rattle.listing.proofs.lines.Counting.{spelled-decimal}
 use Rattle.listing.proofs.lines.put_digits.Goals as goal
 

@@ -1,7 +1,6 @@
 -- `lines::put_line` meets its contract: four texts, one behind the other, in at most 25 bytes.
 -- Assumes nothing.
 use native.Mathlib.Omega.{arith}
-use borrow.Author.Rules.{rules}
 use Rattle.wire.specs.Digits.{num}
 use Rattle.listing.proofs.lines.Laws.{decimal-length, byte-length, put-line}
 use Rattle.listing.proofs.lines.put_line.Goals as goal

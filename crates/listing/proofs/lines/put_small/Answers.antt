@@ -2,7 +2,6 @@
 -- Assumes nothing.
 use native.Mathlib.Omega.{arith}
 use lib.ListN.{length-set}
-use borrow.Author.Rules.{rules}
 use Rattle.listing.proofs.lines.Laws.{one-digit, two_digits, three-digits, stored_one, stored-two, stored-three}
 use Rattle.listing.proofs.lines.put_small.Goals as goal
 

@@ -4,7 +4,6 @@ use mathlib.Core.Path.{sym, ap, ◌∙◌}
 use lib.Dec.{eqb}
 use Rattle.wire.specs.declared.words.TimeRead.{TimeRead}
 use Rattle.parts.specs.Events.{latch_lawful}
-use borrow.Author.Rules.{rules}
 use Rattle.parts.proofs.event.latch_fits.Goals as goal
 
 pub returns-then-latch_zero : goal.returns-then-latch_zero

@@ -1,9 +1,7 @@
 -- `event::latches_fit` meets its contract: each return is decided by the tests that led there.
 -- Assumes nothing.
 use mathlib.Core.Path.{sym, ◌∙◌}
-use borrow.Author.Tests.{not-true, not-false}
 use Rattle.parts.proofs.event.Laws.{latches-zero}
-use borrow.Author.Rules.{rules}
 use Rattle.parts.proofs.event.latches_fit.Goals as goal
 
 pub returns-then-latch_zero-2 : goal.returns-then-latch_zero-2

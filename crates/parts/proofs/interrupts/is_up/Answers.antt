@@ -2,7 +2,6 @@
 -- Assumes nothing.
 use borrow.Author.Tests.{eq-eqb, ne_eqb}
 use Rattle.parts.specs.Interrupts.{line_up}
-use borrow.Author.Rules.{rules}
 use Rattle.parts.proofs.interrupts.is_up.Goals as goal
 
 pub returns-then-i-eq0 : goal.returns-then-i-eq0

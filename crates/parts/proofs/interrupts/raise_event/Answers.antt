@@ -1,6 +1,5 @@
 -- `interrupts::raise_event` meets its contract: one bit.
 -- Assumes nothing.
-use borrow.Author.Rules.{rules}
 use Rattle.parts.proofs.interrupts.raise_event.Goals as goal
 
 pub returns : goal.returns

@@ -1,7 +1,6 @@
 -- `interrupts::raise_sources` meets its contract: bit by bit.
 -- Assumes nothing.
 use Rattle.parts.specs.Interrupts.{sources_raised}
-use borrow.Author.Rules.{rules}
 use Rattle.parts.proofs.interrupts.raise_sources.Goals as goal
 
 pub returns : goal.returns

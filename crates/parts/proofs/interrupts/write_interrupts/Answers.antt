@@ -4,7 +4,6 @@ use Prim.Native.Nat.{ℕ}
 use mathlib.Core.Path.{sym, ap, ◌∙◌}
 use Rattle.parts.specs.Interrupts.{with_pending, interrupts_written}
 use Rattle.parts.proofs.interrupts.Laws.{writes-none}
-use borrow.Author.Rules.{rules}
 use Rattle.parts.proofs.interrupts.write_interrupts.Goals as goal
 
 pub returns-in-14 : goal.returns-in-14

@@ -1,7 +1,6 @@
 -- `pending::both` meets its contract: each return is decided by the tests that led there.
 -- Assumes nothing.
 use borrow.Author.Tests.{eq-eqb, ne_eqb}
-use borrow.Author.Rules.{rules}
 use Rattle.parts.proofs.pending.both.Goals as goal
 
 pub returns-then-a-weight-eq1 : goal.returns-then-a-weight-eq1

@@ -2,7 +2,6 @@
 -- Assumes nothing.
 use native.Mathlib.Nat.{div-one}
 use Rattle.parts.specs.Pending.{cleared}
-use borrow.Author.Rules.{rules}
 use Rattle.parts.proofs.pending.clear.Goals as goal
 
 pub returns : goal.returns

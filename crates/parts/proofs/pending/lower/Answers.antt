@@ -3,7 +3,6 @@
 use borrow.Author.Tests.{eq-eqb, ne_eqb}
 use Rattle.parts.specs.Pending.{lowered}
 use Rattle.parts.proofs.pending.Laws.{bit-within}
-use borrow.Author.Rules.{rules}
 use Rattle.parts.proofs.pending.lower.Goals as goal
 
 pub overflow_sub-result : goal.overflow_sub-result

@@ -3,7 +3,6 @@
 use native.Mathlib.Omega.{arith}
 use borrow.Author.Tests.{eq-eqb, ne_eqb}
 use Rattle.parts.specs.Pending.{raised}
-use borrow.Author.Rules.{rules}
 use Rattle.parts.proofs.pending.raise.Goals as goal
 
 pub overflow_add-result : goal.overflow_add-result

@@ -2,7 +2,6 @@
 -- Assumes nothing.
 use mathlib.Core.Path.{sym, ◌∙◌}
 use Rattle.parts.specs.Pending.{meet}
-use borrow.Author.Rules.{rules}
 use Rattle.parts.proofs.pending.some_meet.Goals as goal
 
 pub returns-then-both : goal.returns-then-both

@@ -1,11 +1,11 @@
 -- `queue::sum_of` meets its contract. The invariant: the bytes up to place i are added up. The measure is what is left of them.
 -- Assumes nothing.
-use Prim.Native.Nat.{◌-◌, ◌≤◌, ℕ}
+use Prim.Native.Nat.{ℕ}
 use native.Mathlib.Omega.{arith}
 use mathlib.Core.Path.{◌≡◌, ap, ◌∙◌}
 use lib.ListN.{take}
 use Rattle.parts.specs.Queues.{total}
-use Rattle.parts.proofs.queue.Laws.{Summed, summed-none, summed-more}
+use Rattle.parts.proofs.queue.Laws.{summed-none, summed-more}
 use Rattle.parts.proofs.queue.sum_of.Goals as goal
 
 pub loop-i-init : goal.loop-i-init

@@ -1,11 +1,7 @@
 -- `queue::sum_of` meets its contract. The invariant: the bytes up to place i are added up. The measure is what is left of them.
 -- Assumes nothing.
-use Prim.Native.Nat.{◌-◌, ◌≤◌, ℕ}
-use native.Mathlib.Omega.{arith}
-use mathlib.Core.Path.{◌≡◌, ap, ◌∙◌}
-use lib.ListN.{take}
-use Rattle.parts.specs.Queues.{total}
-use Rattle.parts.proofs.queue.Laws.{Summed, summed-none, summed-more}
+use Prim.Native.Nat.{◌-◌, ◌≤◌}
+use Rattle.parts.proofs.queue.Laws.{Summed}
 use Rattle.parts.proofs.queue.sum_of.Given as goal
 
 abbrev pub invariant-loop-i : goal.invariant-loop-i

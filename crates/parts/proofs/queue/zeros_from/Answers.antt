@@ -2,7 +2,6 @@
 -- Assumes nothing.
 use native.Mathlib.Omega.{arith}
 use Rattle.parts.proofs.queue.Laws.{zeros-behind}
-use borrow.Author.Rules.{rules}
 use Rattle.parts.proofs.queue.zeros_from.Goals as goal
 
 pub returns : goal.returns

@@ -3,7 +3,6 @@
 use borrow.Author.Tests.{ne_eqb}
 use Rattle.parts.specs.Saved.{saved_refusal, read_saved}
 use Rattle.parts.proofs.saved.Laws.{five-bytes}
-use borrow.Author.Rules.{rules}
 use Rattle.parts.proofs.saved.load_settings.Goals as goal
 
 pub returns-then-bytes-ne5 : goal.returns-then-bytes-ne5

@@ -2,7 +2,6 @@
 -- Assumes nothing.
 use native.Mathlib.Omega.{arith}
 use Rattle.parts.proofs.saved.Laws.{number_in}
-use borrow.Author.Rules.{rules}
 use Rattle.parts.proofs.saved.number_in.Goals as goal
 
 pub returns : goal.returns

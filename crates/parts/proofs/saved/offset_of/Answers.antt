@@ -3,7 +3,6 @@
 use borrow.Author.Tests.{ne_eqb}
 use native.Mathlib.Omega.{arith}
 use Rattle.wire.proofs.packets.Signs.{plain, negated, minus-fits}
-use borrow.Author.Rules.{rules}
 use Rattle.parts.proofs.saved.offset_of.Goals as goal
 
 pub overflow_sub-result : goal.overflow_sub-result

@@ -1,9 +1,7 @@
 -- `saved::put_settings` meets its contract: each return is decided by the tests that led there.
 -- Assumes nothing.
 use mathlib.Core.Path.{sym, ◌∙◌}
-use borrow.Author.Tests.{not-true, not-false}
 use Rattle.parts.proofs.saved.Calls.{put-18, put-14, put-done}
-use borrow.Author.Rules.{rules}
 use Rattle.parts.proofs.saved.put_settings.Goals as goal
 
 pub returns-then-not-settings_fit : goal.returns-then-not-settings_fit

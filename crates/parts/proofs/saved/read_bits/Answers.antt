@@ -1,10 +1,9 @@
 -- `saved::read_bits` meets its contract: each return is decided by the tests that led there.
 -- Assumes nothing.
 use mathlib.Core.Path.{sym, ◌∙◌}
-use borrow.Author.Tests.{le-leb, lt-leb, eq-eqb, ne_eqb, not-true, not-false}
+use borrow.Author.Tests.{le-leb, lt-leb, eq-eqb, ne_eqb}
 use Rattle.parts.specs.Saved.{read_bits}
 use Rattle.parts.proofs.saved.Laws.{meaningful-at, fit_is}
-use borrow.Author.Rules.{rules}
 use Rattle.parts.proofs.saved.read_bits.Goals as goal
 
 pub returns-then-n-gt4 : goal.returns-then-n-gt4

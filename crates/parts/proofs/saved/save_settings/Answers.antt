@@ -3,7 +3,6 @@
 use native.Mathlib.Omega.{arith}
 use lib.ListN.{length-set}
 use Rattle.parts.proofs.saved.Laws.{row-after}
-use borrow.Author.Rules.{rules}
 use Rattle.parts.proofs.saved.save_settings.Goals as goal
 
 pub bounds-row-1 : goal.bounds-row-1

@@ -3,7 +3,6 @@
 use Prim.Native.Nat.{◌*◌, ◌≤◌}
 use mathlib.Core.Path.{sym}
 use native.Mathlib.Omega.{arith}
-use borrow.Author.Rules.{rules}
 use Rattle.sync.specs.Counting.{frequency}
 use Rattle.sync.proofs.counting.Laws.{count-below, count_held, frequency-above, scaled-most}
 use Rattle.sync.proofs.counting.count_at.Goals as goal

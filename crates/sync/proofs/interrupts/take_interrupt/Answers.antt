@@ -1,8 +1,6 @@
 -- `interrupts::take_interrupt` meets its contract: 18, or what is taken.
 -- Assumes nothing.
 use mathlib.Core.Path.{sym, ◌∙◌}
-use borrow.Author.Tests.{not-true, not-false}
-use borrow.Author.Rules.{rules}
 use Rattle.sync.proofs.interrupts.take_interrupt.Goals as goal
 
 pub returns-then-not-is_lawful : goal.returns-then-not-is_lawful

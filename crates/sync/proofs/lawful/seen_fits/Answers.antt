@@ -8,7 +8,7 @@ use Rattle.sync.proofs.lawful.seen_fits.Goals.{then-b-lt-LATE, else-b-lt-LATE}
 pub returns : goal.returns
 unfolding seen_lawful
 returns c =
-    elim c.if-b-lt-LATE.branch
-    [ then-b-lt-LATE w ↦ simp (lt-ltb _ _ w.if-b-lt-LATE.true, w.rest-is)
-    | else-b-lt-LATE w ↦ simp (le-ltb _ _ w.if-b-lt-LATE.false, w.rest-is)
+    elim c.if-b-lt-LATE.branch [
+      | then-b-lt-LATE w ↦ simp (lt-ltb _ _ w.if-b-lt-LATE.true, w.rest-is)
+      | else-b-lt-LATE w ↦ simp (le-ltb _ _ w.if-b-lt-LATE.false, w.rest-is)
     ]

@@ -2,8 +2,6 @@
 -- Assumes nothing.
 use mathlib.Core.Path.{sym, ◌∙◌}
 use native.Mathlib.Omega.{arith}
-use borrow.Author.Tests.{not-true, not-false}
-use borrow.Author.Rules.{rules}
 use Rattle.sync.specs.Register.{shown}
 use Rattle.sync.proofs.counting.Laws.{count_small}
 use Rattle.sync.proofs.lawful.Laws.{elapsed-within}
@@ -26,16 +24,16 @@ pub overflow_add-result : goal.overflow_add-result
 overflow_add-result c =
     let b = c.args.board in
     let e = c.count_at-count.ensures in
-    elim c.if-board.branch
-    [ then-board w ↦ omega (arith, w.bit-is, count_small b.rc1 b.elapsed)
-    | else-board w ↦ omega (arith, w.bit-is, count_small b.rc1 b.elapsed)
+    elim c.if-board.branch [
+      | then-board w ↦ omega (arith, w.bit-is, count_small b.rc1 b.elapsed)
+      | else-board w ↦ omega (arith, w.bit-is, count_small b.rc1 b.elapsed)
     ]
 
 pub returns : goal.returns
 unfolding shown
 returns c =
     let l = sym c.is_lawful.ensures ∙ c.if-not-is_lawful.false in
-    elim c.if-board.branch
-    [ then-board w ↦ simp (l, c.count_at-count.ensures, w.if-board.true, w.bit-is)
-    | else-board w ↦ simp (l, c.count_at-count.ensures, w.if-board.false, w.bit-is)
+    elim c.if-board.branch [
+      | then-board w ↦ simp (l, c.count_at-count.ensures, w.if-board.true, w.bit-is)
+      | else-board w ↦ simp (l, c.count_at-count.ensures, w.if-board.false, w.bit-is)
     ]

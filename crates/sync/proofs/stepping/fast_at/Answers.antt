@@ -2,7 +2,6 @@
 -- Assumes nothing.
 use Prim.Native.Nat.{◌*◌, ◌≤◌}
 use native.Mathlib.Omega.{arith}
-use borrow.Author.Rules.{rules}
 use Rattle.sync.specs.Counting.{frequency}
 use Rattle.sync.proofs.counting.Laws.{count_small, scaled-most, next-come, frequency-above}
 use Rattle.sync.proofs.stepping.fast_at.Goals as goal

@@ -1,8 +1,6 @@
 -- `stepping::run` meets its contract: 18, or the quiet steps.
 -- Assumes nothing.
 use mathlib.Core.Path.{sym, ◌∙◌}
-use borrow.Author.Tests.{not-true, not-false}
-use borrow.Author.Rules.{rules}
 use Rattle.sync.proofs.stepping.run.Goals as goal
 
 pub returns-then-not-is_lawful : goal.returns-then-not-is_lawful

@@ -1,8 +1,6 @@
 -- `stepping::step` meets its contract: 18, the pulse, or one quiet step.
 -- Assumes nothing.
 use mathlib.Core.Path.{sym, ◌∙◌}
-use borrow.Author.Tests.{not-true, not-false}
-use borrow.Author.Rules.{rules}
 use Rattle.sync.specs.Stepping.{quiet_steps}
 use Rattle.sync.proofs.stepping.step.Goals as goal
 

@@ -2,8 +2,6 @@
 -- Assumes nothing.
 use mathlib.Core.Path.{sym, ◌∙◌}
 use native.Mathlib.Omega.{arith}
-use borrow.Author.Tests.{not-true, not-false}
-use borrow.Author.Rules.{rules}
 use Rattle.sync.proofs.lawful.Laws.{rc1-most, base-most}
 use Rattle.sync.proofs.switches.set_switches.Goals as goal
 

@@ -1,11 +1,9 @@
 -- `packets::end_of` meets its contract: what is passed over holds no 0x17, so the first one is at `i` plus its place in the rest.
 -- Assumes nothing.
-use Prim.Native.Nat.{◌+◌, ◌≤◌, ◌-◌, zero-le}
-use mathlib.Core.Path.{◌≡◌, sym, ◌∙◌}
+use Prim.Native.Nat.{zero-le}
+use mathlib.Core.Path.{sym, ◌∙◌}
 use native.Mathlib.Nat.{zero-add}
-use lib.ListN.{length, drop}
 use borrow.Author.Rules.{rules}
-use Rattle.wire.specs.Packets.{place_of}
 use Rattle.wire.proofs.packets.Laws.{place_here, place-on, place_end}
 use Rattle.wire.proofs.packets.end_of.Goals as goal
 

@@ -1,14 +1,12 @@
 -- `packets::number_of` meets its contract: the digits passed are decimal and write `acc`, which stays below a power of ten.
 -- Assumes nothing.
-use Prim.Native.Nat.{◌≤◌, ◌-◌, ◌^◌}
+use Prim.Native.Nat.{◌≤◌, ◌^◌}
 use mathlib.Core.Path.{sym}
 use native.Mathlib.Omega.{arith}
 use native.Mathlib.Nat.{pow-le-pow_right}
 use lib.Dec.{lit<}
-use lib.ListN.{length}
-use borrow.Author.Rules.{rules}
 use borrow.Author.Tests.{le-leb, lt-leb}
-use Rattle.wire.proofs.packets.Laws.{Read, read_none, read_more, read_all, not-decimal}
+use Rattle.wire.proofs.packets.Laws.{read_none, read_more, read_all, not-decimal}
 use Rattle.wire.proofs.packets.number_of.Goals as goal
 
 pub loop-i-init : goal.loop-i-init

@@ -6,7 +6,6 @@ use lib.IntN.{nat_abs}
 use mir.Syntax.{w32}
 use mir.ValLaws.{to_z-of_z}
 use lib.Dec.{ltb}
-use borrow.Author.Rules.{rules}
 use Rattle.wire.proofs.packets.offset_large.Goals as goal
 
 pub returns : goal.returns

@@ -1,9 +1,7 @@
 -- `packets::offset_size` meets its contract: in 64 bits the negative of any offset fits, and it has the offset's size.
 -- Assumes nothing.
-use mathlib.Core.Path.{◌≡◌, refl, ap}
-use mathlib.Core.Bool.{true}
-use lib.IntN.{pos, nat_abs}
-use lib.Signed.{lt_z}
+use mathlib.Core.Path.{refl, ap}
+use lib.IntN.{nat_abs}
 use Rattle.wire.proofs.packets.Signs.{wide, wide_fits, flip, flipped-fits, size_of, not-below}
 use Rattle.wire.proofs.packets.offset_size.Goals as goal
 

@@ -7,7 +7,6 @@ use lib.ListN.{length-set}
 use Rattle.wire.specs.Digits.{digits}
 use Rattle.wire.specs.Packets.{framed, ascii}
 use Rattle.wire.proofs.packets.Laws.{put-short, put-done}
-use borrow.Author.Rules.{rules}
 use Rattle.wire.proofs.packets.put_offset.Goals as goal
 
 pub returns-then-row-lt11 : goal.returns-then-row-lt11

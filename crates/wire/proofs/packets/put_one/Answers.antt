@@ -5,7 +5,6 @@ use native.Mathlib.Omega.{arith}
 use lib.ListN.{length-set}
 use Rattle.wire.specs.Packets.{framed}
 use Rattle.wire.proofs.packets.Laws.{put-short, put-done}
-use borrow.Author.Rules.{rules}
 use Rattle.wire.proofs.packets.put_one.Goals as goal
 
 pub returns-then-row-lt4 : goal.returns-then-row-lt4

@@ -4,7 +4,6 @@ use mathlib.Core.Path.{sym}
 use borrow.Author.Tests.{ne_eqb}
 use Rattle.wire.specs.Packets.{kinds_of}
 use Rattle.wire.proofs.packets.Laws.{body-unknown}
-use borrow.Author.Rules.{rules}
 use Rattle.wire.proofs.packets.read_body.Goals as goal
 
 pub returns-in-65 : goal.returns-in-65

@@ -4,7 +4,6 @@ use mathlib.Core.Path.{refl, sym}
 use borrow.Author.Tests.{ne_eqb}
 use Rattle.wire.specs.Packets.{kinds_of, clock_of}
 use Rattle.wire.proofs.packets.Laws.{body-length, clock-body}
-use borrow.Author.Rules.{rules}
 use Rattle.wire.proofs.packets.read_clock.Goals as goal
 
 pub returns-then-bytes-ne1 : goal.returns-then-bytes-ne1

@@ -4,7 +4,6 @@ use mathlib.Core.Path.{refl, sym}
 use borrow.Author.Tests.{ne_eqb}
 use Rattle.wire.specs.Packets.{kinds_of, format_of}
 use Rattle.wire.proofs.packets.Laws.{body-length, format-body}
-use borrow.Author.Rules.{rules}
 use Rattle.wire.proofs.packets.read_format.Goals as goal
 
 pub returns-then-bytes-ne2 : goal.returns-then-bytes-ne2

@@ -3,7 +3,6 @@
 use mathlib.Core.Path.{sym, ◌∙◌}
 use native.Mathlib.Omega.{arith}
 use Rattle.wire.proofs.packets.Laws.{body-none, body-some}
-use borrow.Author.Rules.{rules}
 use Rattle.wire.proofs.packets.read_framed.Goals as goal
 
 pub returns-then-end-eq1 : goal.returns-then-end-eq1

@@ -1,10 +1,9 @@
 -- `packets::read_mode` meets its contract: `mode-body` has the table for its id, and each return is decided by the tests that led there.
 -- Assumes nothing.
 use mathlib.Core.Path.{refl, sym, ◌∙◌}
-use borrow.Author.Tests.{ne_eqb, le-leb, lt-leb, not-true, not-false}
+use borrow.Author.Tests.{ne_eqb, le-leb, lt-leb}
 use Rattle.wire.specs.Packets.{kinds_of}
 use Rattle.wire.proofs.packets.Laws.{body-length, mode-body}
-use borrow.Author.Rules.{rules}
 use Rattle.wire.proofs.packets.read_mode.Goals as goal
 
 pub returns-then-bytes-ne1 : goal.returns-then-bytes-ne1

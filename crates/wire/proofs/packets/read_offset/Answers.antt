@@ -4,7 +4,6 @@ use mathlib.Core.Path.{refl, sym, ◌∙◌}
 use borrow.Author.Tests.{ne_eqb}
 use Rattle.wire.specs.Packets.{kinds_of}
 use Rattle.wire.proofs.packets.Laws.{body-length, offset-bad, offset-is, offset-small}
-use borrow.Author.Rules.{rules}
 use Rattle.wire.proofs.packets.read_offset.Goals as goal
 
 pub returns-then-bytes-ne8 : goal.returns-then-bytes-ne8

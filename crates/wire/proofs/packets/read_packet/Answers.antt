@@ -3,7 +3,6 @@
 use mathlib.Core.Path.{sym}
 use borrow.Author.Tests.{eq-eqb, ne_eqb}
 use Rattle.wire.proofs.packets.Laws.{no_start, found_within, reads-framed, reads-5, reads-6}
-use borrow.Author.Rules.{rules}
 use Rattle.wire.proofs.packets.read_packet.Goals as goal
 
 pub returns-then-row-eq0 : goal.returns-then-row-eq0

@@ -3,7 +3,6 @@
 use mathlib.Core.Path.{sym, ◌∙◌}
 use borrow.Author.Tests.{ne_eqb}
 use Rattle.wire.specs.Packets.{read_pair, modulation_of}
-use borrow.Author.Rules.{rules}
 use Rattle.wire.proofs.packets.read_pair.Goals as goal
 
 pub returns-then-pair_means : goal.returns-then-pair_means

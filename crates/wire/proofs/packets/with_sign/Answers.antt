@@ -7,7 +7,6 @@ use Rattle.wire.specs.Packets.{packet_read, read_signed}
 use Rattle.wire.specs.declared.packets.Packet.TheVariants as Packet
 use native.Mathlib.Omega.{arith}
 use Rattle.wire.proofs.packets.Signs.{plain, negated, minus-fits}
-use borrow.Author.Rules.{rules}
 use Rattle.wire.proofs.packets.with_sign.Goals as goal
 
 pub overflow_sub-n : goal.overflow_sub-n

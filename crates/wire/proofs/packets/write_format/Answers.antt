@@ -3,11 +3,9 @@
 use Prim.Native.Nat.{ℕ}
 use mathlib.Core.Path.{refl, sym, ◌∙◌, ap₂}
 use mathlib.Core.List.{[], ◌∷◌}
-use borrow.Author.Tests.{not-true, not-false}
 use Rattle.wire.specs.declared.packets.Packet.TheVariants as Packet
 use Rattle.wire.specs.Packets.{data_of, framed}
 use Rattle.wire.proofs.packets.Laws.{write-10, write-put}
-use borrow.Author.Rules.{rules}
 use Rattle.wire.proofs.packets.write_format.Goals as goal
 
 pub returns-then-not-pair_means : goal.returns-then-not-pair_means

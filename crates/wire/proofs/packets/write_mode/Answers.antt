@@ -1,11 +1,10 @@
 -- `packets::write_mode` meets its contract: 9 and 10 by the tests, and the bytes by `put_one`.
 -- Assumes nothing.
 use mathlib.Core.Path.{refl, sym, ◌∙◌}
-use borrow.Author.Tests.{le-leb, lt-leb, not-true, not-false}
+use borrow.Author.Tests.{le-leb, lt-leb}
 use Rattle.wire.specs.declared.packets.Packet.TheVariants as Packet
 use Rattle.wire.specs.Packets.{data_of}
 use Rattle.wire.proofs.packets.Laws.{write-9, write-10, write-put}
-use borrow.Author.Rules.{rules}
 use Rattle.wire.proofs.packets.write_mode.Goals as goal
 
 pub returns-then-mode-gt7 : goal.returns-then-mode-gt7

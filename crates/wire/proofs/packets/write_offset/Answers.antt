@@ -6,12 +6,10 @@ use mathlib.Core.List.{◌∷◌}
 use lib.IntN.{nat_abs}
 use mir.Syntax.{w32}
 use mir.ValLaws.{to_z-of_z}
-use borrow.Author.Tests.{not-true, not-false}
 use Rattle.wire.specs.declared.packets.Packet.TheVariants as Packet
 use Rattle.wire.specs.Digits.{digits}
-use Rattle.wire.specs.Packets.{fits, data_of, framed, ascii, sign_of, offset_fits}
+use Rattle.wire.specs.Packets.{data_of, framed, ascii, sign_of, offset_fits}
 use Rattle.wire.proofs.packets.Laws.{write-9, write-put}
-use borrow.Author.Rules.{rules}
 use Rattle.wire.proofs.packets.write_offset.Goals as goal
 
 pub returns-then-not-offset_fits : goal.returns-then-not-offset_fits

@@ -1,4 +1,3 @@
-
 use Rattle.wire.specs.Time.{tick_at}
 use borrow.Author.Rules.{rules}
 use Rattle.wire.proofs.time.tick_at.Goals as goal

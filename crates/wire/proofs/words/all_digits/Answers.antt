@@ -1,9 +1,8 @@
 -- `words::all_digits` meets its contract: `decimal-words` has the test of each word, and each return is decided by those that led there.
 -- Assumes nothing.
 use mathlib.Core.Path.{sym, ◌∙◌}
-use borrow.Author.Tests.{le-ltb, lt-ltb, not-true, not-false}
+use borrow.Author.Tests.{le-ltb, lt-ltb}
 use Rattle.wire.proofs.words.Laws.{decimal-words}
-use borrow.Author.Rules.{rules}
 use Rattle.wire.proofs.words.all_digits.Goals as goal
 
 pub returns-then-a-ge10 : goal.returns-then-a-ge10

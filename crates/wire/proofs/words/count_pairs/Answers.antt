@@ -1,6 +1,5 @@
 -- `words::count_pairs` meets its contract: nine counts, by `ten-pairs`.
 -- Assumes nothing.
-use borrow.Author.Rules.{rules}
 use Rattle.wire.proofs.words.Pairs.{ten-pairs}
 use Rattle.wire.proofs.words.count_pairs.Goals as goal
 

@@ -2,7 +2,6 @@
 -- Assumes nothing.
 use native.Mathlib.Omega.{arith}
 use Rattle.wire.proofs.words.Laws.{fraction-by-pairs}
-use borrow.Author.Rules.{rules}
 use Rattle.wire.proofs.words.fraction.Goals as goal
 
 pub returns : goal.returns

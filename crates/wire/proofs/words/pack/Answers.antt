@@ -1,7 +1,6 @@
 -- `words::pack` meets its contract: ten pairs, and the word of each two of them, by `five-words`.
 -- Assumes nothing.
 use lib.Dec.{lit<}
-use borrow.Author.Rules.{rules}
 use Rattle.wire.proofs.words.Laws.{pair-below, five-words}
 use Rattle.wire.proofs.words.pack.Goals as goal
 

@@ -1,10 +1,8 @@
 -- `words::read_five` meets its contract.
 -- Assumes nothing.
 use mathlib.Core.Path.{sym, ◌∙◌}
-use borrow.Author.Tests.{not-true, not-false}
 use Rattle.wire.specs.Words.{read_words}
 use Rattle.wire.proofs.words.Laws.{range-in, time-in, read-bad, read-outside, read_done}
-use borrow.Author.Rules.{rules}
 use Rattle.wire.proofs.words.read_five.Goals as goal
 
 pub returns-then-not-all_digits : goal.returns-then-not-all_digits

@@ -1,6 +1,5 @@
 -- `words::whole_seconds` meets its contract.
 -- Assumes nothing.
-use borrow.Author.Rules.{rules}
 use Rattle.wire.proofs.words.Pairs.{seconds-in-blocks}
 use Rattle.wire.proofs.words.whole_seconds.Goals as goal
 

@@ -4,7 +4,6 @@ use Prim.Native.Nat.{ℕ, ◌<◌}
 use mathlib.Core.List.{List}
 use native.Mathlib.Omega.{arith}
 use lib.ListN.{get_or}
-use borrow.Author.Rules.{rules}
 use Rattle.wire.specs.Digits.{PairTable}
 use Rattle.wire.proofs.words.Laws.{pair_small, word-of-pairs}
 use Rattle.wire.proofs.words.word.Goals as goal

@@ -3,7 +3,6 @@
 use mathlib.Core.Path.{ap}
 use Rattle.wire.specs.declared.words.WordsWritten.{WordsWritten}
 use Rattle.wire.specs.Words.{write_words}
-use borrow.Author.Rules.{rules}
 use Rattle.wire.proofs.words.words_of.Goals as goal
 
 pub returns : goal.returns

@@ -4,7 +4,6 @@ use mathlib.Core.Path.{sym, ◌∙◌}
 use native.Mathlib.Omega.{arith}
 use Rattle.wire.specs.Words.{write_words, words_or_zero}
 use Rattle.wire.proofs.words.Laws.{writable-day, writable-tick}
-use borrow.Author.Rules.{rules}
 use Rattle.wire.proofs.words.write_words.Goals as goal
 
 pub pack-requires : goal.pack-requires
