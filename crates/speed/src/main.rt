@@ -35,8 +35,8 @@ use std::io;
 use std::rt::Env;
 use wire::time::Milliseconds;
 
-// The longest row, which just fits a stack of 8 MiB.
-const LONGEST: usize = 1_000_000;
+// The longest row.
+const LONGEST: u64 = 1_000_000;
 
 // What a name comes to: the loop's checksum, or that no loop has it.
 #[derive(Clone, Copy)]
@@ -191,8 +191,8 @@ fn room_of(n: u64) -> usize
     if n == 0 {
         return 1;
     }
-    if 1_000_000 < n {
-        return 1_000_000;
+    if LONGEST < n {
+        return LONGEST as usize;
     }
     n as usize
 }
@@ -212,11 +212,10 @@ fn run_arguments(rt: &(impl Env + Print), times: usize, row: &mut [u64]) -> io::
     Ok(())
 }
 
-// A write that fails is the end.
+// A write that fails is the end, and so is a row that there is no memory for.
 fn main(rt: HostRuntime) -> io::Result<()> {
     let times = number_of(&rt, 1) as usize;
     let room = room_of(number_of(&rt, 2));
-    let mut row = [0u64; LONGEST];
-    let from: usize = 0;
-    run_arguments(&rt, times, &mut row[from..room])
+    let mut row = vec![in rt.alloc(); 0u64; room]?;
+    run_arguments(&rt, times, &mut row)
 }
