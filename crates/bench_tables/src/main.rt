@@ -1,6 +1,8 @@
 // The bench, on the input beside it.
 #![tactic(auto)]
 
-fn main() {
-    shell::bench();
+use std::io;
+
+fn main(rt: HostRuntime) -> io::Result<()> {
+    shell::bench(&rt)
 }

@@ -1,6 +1,8 @@
 // The script beside it: blocks into the queue, and the whole card after each.
 #![tactic(auto)]
 
-fn main() {
-    script::run();
+use std::io;
+
+fn main(rt: HostRuntime) -> io::Result<()> {
+    script::run(&rt)
 }

@@ -1,20 +1,19 @@
 // A number to standard output, behind a space. No contract can say what is written.
-use libc::STDOUT_FILENO;
+use std::io;
 
-pub fn put(n: u64) {
-    io::write_all(STDOUT_FILENO, b" ");
-    io::print_decimal(STDOUT_FILENO, n);
+pub fn put(rt: &impl Print, n: u64) -> io::Result<()> {
+    print!(rt; " {n}")
 }
 
-pub fn put_byte(b: u8) {
-    put(b as u64);
+pub fn put_byte(rt: &impl Print, b: u8) -> io::Result<()> {
+    put(rt, b as u64)
 }
 
-pub fn put_short(n: u16) {
-    put(n as u64);
+pub fn put_short(rt: &impl Print, n: u16) -> io::Result<()> {
+    put(rt, n as u64)
 }
 
 // 1 for true.
-pub fn put_bool(b: bool) {
-    put(if b { 1 } else { 0 });
+pub fn put_bool(rt: &impl Print, b: bool) -> io::Result<()> {
+    put(rt, if b { 1 } else { 0 })
 }

@@ -1,6 +1,8 @@
 // The script beside it: frames written and read, and rows of a stream's elements, with the stream's record after each.
 #![tactic(auto)]
 
-fn main() {
-    script::run();
+use std::io;
+
+fn main(rt: HostRuntime) -> io::Result<()> {
+    script::run(&rt)
 }

@@ -8,20 +8,42 @@ use wire::words::TimeRead;
 // Room for any line: four numbers of at most twenty digits, and a byte behind each.
 pub(crate) const LINE: usize = 84;
 
+// A number's decimal digits, with zeros in front.
+fn digits_of(n: u64) -> [u8; 20] {
+    let mut digits = [b'0'; 20];
+    let mut rest = n;
+    for i in 0..20 {
+        digits[19 - i] = b'0' + (rest % 10) as u8;
+        rest /= 10;
+    }
+    digits
+}
+
+// The place of the first digit that is written: the last one is, whatever it is.
+fn first_place(digits: &[u8; 20]) -> usize
+    ensures { result ≤ 19 }
+{
+    for i in 0..19 {
+        if digits[i] != b'0' {
+            return i;
+        }
+    }
+    19
+}
+
 // A number in decimal, and a byte behind it. Answers the place behind both.
 fn put_number(n: u64, end: u8, row: &mut [u8], at: usize) -> usize
     requires { at + 21 ≤ length row.old }
     ensures { result ≤ at + 21 }
 {
-    let mut digits = [0u8; 20];
-    let count = io::decimal(n, &mut digits);
-    let mut i: usize = 0;
-    while i < count {
-        row[at + i] = digits[i];
-        i += 1;
+    let digits = digits_of(n);
+    let first = first_place(&digits);
+    for i in first..20 {
+        row[at + (i - first)] = digits[i];
     }
-    row[at + i] = end;
-    at + i + 1
+    let count = 20 - first;
+    row[at + count] = end;
+    at + count + 1
 }
 
 // The line of a frame: the number of its element 0, the frame's own number, and, if that is 0, its day and its tick of day. A frame is the last hundred of the elements that

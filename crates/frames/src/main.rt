@@ -7,11 +7,12 @@
 
 mod lines;
 
-ghost use Rattle.std.specs.Prelude.{◌+◌, ◌≤◌, length};
+ghost use Rattle.std.specs.Prelude.{◌+◌, ◌≤◌, length, IfOk};
 
 use crate::lines::{LINE, put_line};
 use irig::stream::{Finished, Stream, fresh_stream, take_row};
-use libc::{STDIN_FILENO, STDOUT_FILENO};
+use std::io;
+use std::io::Read;
 use std::num::wrapping_add_u64;
 
 // The stream after a part of the input, how many elements were taken of the whole input, and whether to go on. 64 bits count more elements than any input has; behind so many
@@ -21,13 +22,6 @@ struct Kept {
     stream: Stream,
     taken: u64,
     going: bool,
-}
-
-// How many bytes of lines a row holds, and whether all that was to be written could be.
-#[derive(Clone, Copy)]
-struct Filled {
-    fill: usize,
-    whole: bool,
 }
 
 // The line of a frame, if one was finished. Answers the place behind it.
@@ -41,34 +35,35 @@ fn put_finished(taken: u64, finished: Finished, row: &mut [u8], at: usize) -> us
     }
 }
 
-// Writes the first bytes of a row, and answers whether that could be done.
-fn write_front(row: &[u8], n: usize) -> bool
+// Writes the first bytes of a row.
+fn write_front(rt: &impl Print, row: &[u8], n: usize) -> io::Result<()>
     requires { n ≤ length row.now }
 {
     let from: usize = 0;
-    io::write_all(STDOUT_FILENO, &row[from..n])
+    rt.write_all(&row[from..n])
 }
 
-// The line of a frame, if one was finished. If the row then has no room for one more, its lines are written out.
-fn put_out(taken: u64, finished: Finished, row: &mut [u8], fill: usize) -> Filled
+// The line of a frame, if one was finished. If the row then has no room for one more, its lines are written out. Answers how many bytes of lines the row holds.
+fn put_out(
+    rt: &impl Print,
+    taken: u64,
+    finished: Finished,
+    row: &mut [u8],
+    fill: usize,
+) -> io::Result<usize>
     requires { fill + 84 ≤ length row.old }
-    ensures { result.fill + 84 ≤ length row.old }
+    ensures { IfOk result (λ filled. filled + 84 ≤ length row.old) }
 {
     let at = put_finished(taken, finished, row, fill);
     if LINE <= row.len() - at {
-        return Filled {
-            fill: at,
-            whole: true,
-        };
+        return Ok(at);
     }
-    Filled {
-        fill: 0,
-        whole: write_front(row, at),
-    }
+    write_front(rt, row, at)?;
+    Ok(0)
 }
 
 // Takes a part of the input, frame by frame, and writes its lines out. No call takes nothing of a row that has elements; one that did would be the end.
-fn take_part(kept: Kept, part: &[u8], row: &mut [u8]) -> Kept
+fn take_part(rt: &impl Print, kept: Kept, part: &[u8], row: &mut [u8]) -> io::Result<Kept>
     requires { 84 ≤ length row.old }
 {
     let mut stream = kept.stream;
@@ -82,43 +77,48 @@ fn take_part(kept: Kept, part: &[u8], row: &mut [u8]) -> Kept
         from += t.taken;
         taken = wrapping_add_u64(taken, t.taken as u64);
         let finished = t.finished;
-        let filled = put_out(taken, finished, row, fill);
-        fill = filled.fill;
-        if (t.taken == 0) | !filled.whole {
-            return Kept {
+        fill = put_out(rt, taken, finished, row, fill)?;
+        if t.taken == 0 {
+            return Ok(Kept {
                 stream: stream,
                 taken: taken,
                 going: false,
-            };
+            });
         }
     }
-    Kept {
+    write_front(rt, row, fill)?;
+    Ok(Kept {
         stream: stream,
         taken: taken,
-        going: write_front(row, fill),
-    }
+        going: true,
+    })
 }
 
-// Reads once, and takes what came. A read that fails or gives nothing is the end.
-fn take_some(kept: Kept, input: &mut [u8], row: &mut [u8]) -> Kept
+// Reads once, and takes what came. A read that gives nothing is the end.
+fn take_some(
+    rt: &impl Print,
+    reader: &mut impl Read,
+    kept: Kept,
+    input: &mut [u8],
+    row: &mut [u8],
+) -> io::Result<Kept>
     requires { 84 ≤ length row.old }
 {
-    let got = libc::read(STDIN_FILENO, input);
-    if got <= 0 {
+    let n = reader.read(input)?;
+    if n == 0 {
         let stream = kept.stream;
-        return Kept {
+        return Ok(Kept {
             stream: stream,
             taken: kept.taken,
             going: false,
-        };
+        });
     }
-    let n = io::count(got, input);
     let from: usize = 0;
-    take_part(kept, &input[from..n], row)
+    take_part(rt, kept, &input[from..n], row)
 }
 
-// Takes all of the input. Nothing says that an input ends, so the loop counts its turns down, from a number that no run uses up.
-fn run(input: &mut [u8], row: &mut [u8])
+// Takes all of the input. Nothing says that an input ends, so the loop counts its turns, up to a number that no run uses up.
+fn run(rt: &impl Print, reader: &mut impl Read, input: &mut [u8], row: &mut [u8]) -> io::Result<()>
     requires { 84 ≤ length row.old }
 {
     let mut kept = Kept {
@@ -126,18 +126,18 @@ fn run(input: &mut [u8], row: &mut [u8])
         taken: 0,
         going: true,
     };
-    let mut turns = u64::MAX;
-    while 0 < turns {
-        kept = take_some(kept, input, row);
-        turns -= 1;
+    for _ in 0..u64::MAX {
+        kept = take_some(rt, reader, kept, input, row)?;
         if !kept.going {
-            turns = 0;
+            break;
         }
     }
+    Ok(())
 }
 
-fn main() {
-    let mut input = io::large_buffer();
-    let mut row = io::large_buffer();
-    run(&mut input, &mut row);
+// A read or a write that fails is the end.
+fn main(rt: HostRuntime) -> io::Result<()> {
+    let mut input = [0u8; 65536];
+    let mut row = [0u8; 65536];
+    run(&rt, &mut rt.reader(), &mut input, &mut row)
 }

@@ -1,6 +1,8 @@
 // The script beside it: wanted periods, and the nearest pair of dividers to each.
 #![tactic(auto)]
 
-fn main() {
-    script::run();
+use std::io;
+
+fn main(rt: HostRuntime) -> io::Result<()> {
+    script::run(&rt)
 }

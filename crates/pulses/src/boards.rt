@@ -1,7 +1,7 @@
 // The board's record, with its fields in their order: read from a line, lawful or not, and written out.
 use cases::writing::{put, put_bool, put_byte};
 use cases::{byte_at, long_at};
-use libc::STDOUT_FILENO;
+use std::io;
 use sync::board::Board;
 
 fn flag_at(text: &[u8], place: usize) -> bool {
@@ -21,20 +21,20 @@ pub(crate) fn board_at(text: &[u8]) -> Board {
     }
 }
 
-fn put_flags(bit: bool, err: bool, slo: bool, fast: bool) {
-    put_bool(bit);
-    put_bool(err);
-    put_bool(slo);
-    put_bool(fast);
+fn put_flags(rt: &impl Print, bit: bool, err: bool, slo: bool, fast: bool) -> io::Result<()> {
+    put_bool(rt, bit)?;
+    put_bool(rt, err)?;
+    put_bool(rt, slo)?;
+    put_bool(rt, fast)
 }
 
 // Writes a board and hands it on.
-pub(crate) fn shown(board: Board) -> Board {
-    io::write_all(STDOUT_FILENO, b" :");
-    put_byte(board.rc1);
-    put_byte(board.base);
-    put_bool(board.seen);
-    put(board.elapsed as u64);
-    put_flags(board.bit, board.err, board.slo, board.fast);
-    board
+pub(crate) fn shown(rt: &impl Print, board: Board) -> io::Result<Board> {
+    rt.write_all(b" :")?;
+    put_byte(rt, board.rc1)?;
+    put_byte(rt, board.base)?;
+    put_bool(rt, board.seen)?;
+    put(rt, board.elapsed as u64)?;
+    put_flags(rt, board.bit, board.err, board.slo, board.fast)?;
+    Ok(board)
 }

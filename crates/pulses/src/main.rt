@@ -6,38 +6,38 @@ mod boards;
 mod calls;
 
 use crate::calls::called;
-use libc::{STDIN_FILENO, STDOUT_FILENO};
+use std::io;
+use std::io::Read;
 use sync::board::{Board, fresh_board};
 
 // An empty line is only written.
-fn line(board: Board, text: &[u8]) -> Board {
-    io::write_all(STDOUT_FILENO, text);
+fn line(rt: &impl Print, board: Board, text: &[u8]) -> io::Result<Board> {
+    rt.write_all(text)?;
     let b = if text.len() == 0 {
         board
     } else {
-        called(text[0], board, text)
+        called(rt, text[0], board, text)?
     };
-    io::write_all(STDOUT_FILENO, b"\n");
-    b
+    rt.write_all(b"\n")?;
+    Ok(b)
 }
 
-fn run_lines(lines: &[u8]) {
+fn run_lines(rt: &impl Print, lines: &[u8]) -> io::Result<()> {
     let mut board = fresh_board();
     let mut from: usize = 0;
     for i in 0..lines.len() {
         if lines[i] == b'\n' {
             let text = &lines[from..i];
             from = i + 1;
-            board = line(board, text);
+            board = line(rt, board, text)?;
         }
     }
+    Ok(())
 }
 
-// One reading takes all lines: 65536 bytes at most.
-fn main() {
-    let mut lines = io::large_buffer();
-    let got = libc::read(STDIN_FILENO, &mut lines);
-    let n = io::count(got, &lines);
-    let from: usize = 0;
-    run_lines(&lines[from..n]);
+// One reading takes all lines: 65536 bytes at most. A read or a write that fails is the end.
+fn main(rt: HostRuntime) -> io::Result<()> {
+    let mut lines = [0u8; 65536];
+    let n = rt.reader().read(&mut lines)?;
+    run_lines(&rt, &lines[..n])
 }

@@ -1,6 +1,8 @@
 // The script beside it: each number through the call that gives it, and every kind of torn card.
 #![tactic(auto)]
 
-fn main() {
-    script::run();
+use std::io;
+
+fn main(rt: HostRuntime) -> io::Result<()> {
+    script::run(&rt)
 }

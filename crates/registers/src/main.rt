@@ -1,6 +1,8 @@
 // The script beside it: calls that are done, and the whole card after each.
 #![tactic(auto)]
 
-fn main() {
-    script::run();
+use std::io;
+
+fn main(rt: HostRuntime) -> io::Result<()> {
+    script::run(&rt)
 }

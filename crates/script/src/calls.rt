@@ -16,6 +16,7 @@ use cases::{byte_at, long_at, number_at, short_at, ticks_at, wide_at};
 use clock::setting::{Dividers, StrobeAt};
 use dividers::nearest::{Found, nearest_pair};
 use lent::in_place;
+use std::io;
 use telling::{put_bytes, put_card, put_row, put_words};
 use wire::packets::{ClockSource, Generator, Packet, write_packet};
 use wire::time::Ticks;
@@ -24,19 +25,19 @@ use wire::words::{read_words, write_words};
 // What stands in a place before a wait: no record is 7, which would be one of no ticks.
 const UNTOUCHED: u64 = 7;
 
-fn told(a: Answer) -> Card {
-    put_byte(a.number);
+fn told(rt: &impl Print, a: Answer) -> io::Result<Card> {
+    put_byte(rt, a.number)?;
     let c = a.card;
-    c
+    Ok(c)
 }
 
-fn told_time(card: Card, text: &[u8]) -> Card {
+fn told_time(rt: &impl Print, card: Card, text: &[u8]) -> io::Result<Card> {
     let year = short_at(text, 1);
     let day = short_at(text, 2);
     let hour = short_at(text, 3);
     let minute = short_at(text, 4);
     let second = short_at(text, 5);
-    told(set_time(card, year, day, hour, minute, second))
+    told(rt, set_time(card, year, day, hour, minute, second))
 }
 
 fn daily(text: &[u8]) -> StrobeAt {
@@ -48,12 +49,12 @@ fn daily(text: &[u8]) -> StrobeAt {
     }
 }
 
-fn told_reading(card: Card, reg: u8) -> Card {
+fn told_reading(rt: &impl Print, card: Card, reg: u8) -> io::Result<Card> {
     let v = read_register(card, reg);
-    put_byte(v.number);
-    put_short(v.value);
+    put_byte(rt, v.number)?;
+    put_short(rt, v.value)?;
     let c = v.card;
-    c
+    Ok(c)
 }
 
 // Bytes, the first one and each next a step more, from 0 on again behind 255.
@@ -66,20 +67,20 @@ fn rising(row: &mut [u8], first: u8, step: u8) {
 }
 
 // So many rising bytes, 80 at most, as one block.
-fn told_block(card: Card, text: &[u8]) -> Card {
+fn told_block(rt: &impl Print, card: Card, text: &[u8]) -> io::Result<Card> {
     let mut row = [0u8; 80];
     rising(&mut row, byte_at(text, 2), byte_at(text, 3));
     let from: usize = 0;
     let count = count_at(text, 80);
     let a = write_block(card, &row[from..count]);
-    put_byte(a.number);
-    put(a.taken as u64);
+    put_byte(rt, a.number)?;
+    put(rt, a.taken as u64)?;
     let c = a.card;
-    c
+    Ok(c)
 }
 
 // So many edges of a kind, at most 70,000 on a line, so that it ends soon; the number of the last is told.
-fn told_edges(card: Card, times: u32, falling: bool) -> Card {
+fn told_edges(rt: &impl Print, card: Card, times: u32, falling: bool) -> io::Result<Card> {
     let mut c = card;
     let mut number: u8 = 0;
     for i in 0..times {
@@ -87,57 +88,57 @@ fn told_edges(card: Card, times: u32, falling: bool) -> Card {
         number = a.number;
         c = a.card;
     }
-    put_byte(number);
-    c
+    put_byte(rt, number)?;
+    Ok(c)
 }
 
-fn told_line(card: Card) -> Card {
+fn told_line(rt: &impl Print, card: Card) -> io::Result<Card> {
     let l = interrupt_line(card);
-    put_byte(l.number);
-    put_bool(l.up);
-    put_byte(l.level);
-    put_byte(l.vector);
-    card
+    put_byte(rt, l.number)?;
+    put_bool(rt, l.up)?;
+    put_byte(rt, l.level)?;
+    put_byte(rt, l.vector)?;
+    Ok(card)
 }
 
-fn told_waited(w: WaitedCard, row: &[u64; 10]) -> Card {
+fn told_waited(rt: &impl Print, w: WaitedCard, row: &[u64; 10]) -> io::Result<Card> {
     let waited = w.waited;
-    put_byte(waited.number);
-    put(waited.passed.ticks);
-    put(waited.written as u64);
-    put_row(row);
+    put_byte(rt, waited.number)?;
+    put(rt, waited.passed.ticks)?;
+    put(rt, waited.written as u64)?;
+    put_row(rt, row)?;
     let c = w.card;
-    c
+    Ok(c)
 }
 
 // Ten places, of which so many are lent.
-fn told_wait(card: Card, text: &[u8]) -> Card {
+fn told_wait(rt: &impl Print, card: Card, text: &[u8]) -> io::Result<Card> {
     let mut row = [UNTOUCHED; 10];
     let from: usize = 0;
     let places = count_at(text, 10);
     let w = wait(card, ticks_at(text, 2), &mut row[from..places]);
-    told_waited(w, &row)
+    told_waited(rt, w, &row)
 }
 
-fn told_wait_in_place(card: Card, text: &[u8]) -> Card {
+fn told_wait_in_place(rt: &impl Print, card: Card, text: &[u8]) -> io::Result<Card> {
     let mut row = [UNTOUCHED; 10];
     let from: usize = 0;
     let places = count_at(text, 10);
     let w = in_place(card, ticks_at(text, 2), &mut row[from..places]);
-    told_waited(w, &row)
+    told_waited(rt, w, &row)
 }
 
 // Twelve places, of which so many are lent.
-fn told_save(card: Card, text: &[u8]) -> Card {
+fn told_save(rt: &impl Print, card: Card, text: &[u8]) -> io::Result<Card> {
     let mut row = [7u8; 12];
     let from: usize = 0;
     let places = count_at(text, 12);
-    put_byte(save(card, &mut row[from..places]));
-    put_bytes(&row);
-    card
+    put_byte(rt, save(card, &mut row[from..places]))?;
+    put_bytes(rt, &row)?;
+    Ok(card)
 }
 
-fn told_load(card: Card, text: &[u8]) -> Card {
+fn told_load(rt: &impl Print, card: Card, text: &[u8]) -> io::Result<Card> {
     let a = byte_at(text, 2);
     let b = byte_at(text, 3);
     let c = byte_at(text, 4);
@@ -146,34 +147,34 @@ fn told_load(card: Card, text: &[u8]) -> Card {
     let row = [a, b, c, d, e, 0];
     let from: usize = 0;
     let count = count_at(text, 6);
-    told(load(card, &row[from..count]))
+    told(rt, load(card, &row[from..count]))
 }
 
-fn told_packet(p: Packet, places: usize)
+fn told_packet(rt: &impl Print, p: Packet, places: usize) -> io::Result<()>
     requires { places ≤ 12 }
 {
     let mut row = [7u8; 12];
     let from: usize = 0;
     let w = write_packet(p, &mut row[from..places]);
-    put_byte(w.number);
-    put(w.bytes as u64);
-    put_bytes(&row);
+    put_byte(rt, w.number)?;
+    put(rt, w.bytes as u64)?;
+    put_bytes(rt, &row)
 }
 
-fn told_words(day: u16, tick: Ticks) {
+fn told_words(rt: &impl Print, day: u16, tick: Ticks) -> io::Result<()> {
     let w = write_words(day, tick);
-    put_byte(w.number);
+    put_byte(rt, w.number)?;
     let words = w.words;
-    put_words(words);
+    put_words(rt, words)
 }
 
-fn told_nearest(found: Found) {
-    put_byte(found.number);
+fn told_nearest(rt: &impl Print, found: Found) -> io::Result<()> {
+    put_byte(rt, found.number)?;
     let pair = found.pair;
-    put(pair.n1 as u64);
-    put(pair.n2 as u64);
-    put(found.period);
-    put(found.distance);
+    put(rt, pair.n1 as u64)?;
+    put(rt, pair.n2 as u64)?;
+    put(rt, found.period)?;
+    put(rt, found.distance)
 }
 
 fn packet_of(call: u8, text: &[u8]) -> Packet {
@@ -187,61 +188,70 @@ fn packet_of(call: u8, text: &[u8]) -> Packet {
 }
 
 // Words, packets and wanted periods alone.
-fn called_alone(call: u8, text: &[u8]) {
+fn called_alone(rt: &impl Print, call: u8, text: &[u8]) -> io::Result<()> {
     match call {
-        b'f' => told_words(short_at(text, 1), ticks_at(text, 2)),
-        b'g' => put_read(read_words(five_at(text))),
-        b'c' => told_nearest(nearest_pair(number_at(text, 1))),
-        b'u' => told_nearest(nearest_pair(wide_at(text, 1, 2))),
-        b'P' => told_reading_alone(text),
-        _ => told_packet(packet_of(call, text), count_at(text, 12)),
+        b'f' => told_words(rt, short_at(text, 1), ticks_at(text, 2)),
+        b'g' => put_read(rt, read_words(five_at(text))),
+        b'c' => told_nearest(rt, nearest_pair(number_at(text, 1))),
+        b'u' => told_nearest(rt, nearest_pair(wide_at(text, 1, 2))),
+        b'P' => told_reading_alone(rt, text),
+        _ => told_packet(rt, packet_of(call, text), count_at(text, 12)),
     }
 }
 
-fn called_clock(call: u8, card: Card, text: &[u8]) -> Card {
+fn called_clock(rt: &impl Print, call: u8, card: Card, text: &[u8]) -> io::Result<Card> {
     match call {
-        b't' => told_time(card, text),
-        b'd' => told(set_periodic(card, Dividers::By(long_at(text, 1), long_at(text, 2)))),
-        b'q' => told(set_periodic(card, Dividers::Off)),
-        b's' => told(set_strobe(card, StrobeAt::EachSecond(short_at(text, 1)))),
-        b'a' => told(set_strobe(card, daily(text))),
-        b'z' => told(set_strobe(card, StrobeAt::Off)),
-        b'n' => told_wait(card, text),
-        b'i' => told_wait_in_place(card, text),
-        _ => changed(call, card, text),
+        b't' => told_time(rt, card, text),
+        b'd' => told(
+            rt,
+            set_periodic(card, Dividers::By(long_at(text, 1), long_at(text, 2))),
+        ),
+        b'q' => told(rt, set_periodic(card, Dividers::Off)),
+        b's' => told(
+            rt,
+            set_strobe(card, StrobeAt::EachSecond(short_at(text, 1))),
+        ),
+        b'a' => told(rt, set_strobe(card, daily(text))),
+        b'z' => told(rt, set_strobe(card, StrobeAt::Off)),
+        b'n' => told_wait(rt, card, text),
+        b'i' => told_wait_in_place(rt, card, text),
+        _ => Ok(changed(call, card, text)),
     }
 }
 
-fn called_card(call: u8, card: Card, text: &[u8]) -> Card {
+fn called_card(rt: &impl Print, call: u8, card: Card, text: &[u8]) -> io::Result<Card> {
     match call {
-        b'r' => told_reading(card, byte_at(text, 1)),
-        b'w' => told(write_register(card, byte_at(text, 1), short_at(text, 2))),
-        b'b' => told_block(card, text),
-        b'e' => told(input_edge(card, byte_at(text, 1) == 1)),
-        b'k' => told_edges(card, long_at(text, 1) % 70_001, byte_at(text, 2) == 1),
-        b'l' => told_line(card),
-        b'j' => told(switch_jam(card, byte_at(text, 1) == 1)),
-        b'x' => told(reset(card)),
-        b'p' => told_save(card, text),
-        b'o' => told_load(card, text),
-        _ => called_clock(call, card, text),
+        b'r' => told_reading(rt, card, byte_at(text, 1)),
+        b'w' => told(
+            rt,
+            write_register(card, byte_at(text, 1), short_at(text, 2)),
+        ),
+        b'b' => told_block(rt, card, text),
+        b'e' => told(rt, input_edge(card, byte_at(text, 1) == 1)),
+        b'k' => told_edges(rt, card, long_at(text, 1) % 70_001, byte_at(text, 2) == 1),
+        b'l' => told_line(rt, card),
+        b'j' => told(rt, switch_jam(card, byte_at(text, 1) == 1)),
+        b'x' => told(rt, reset(card)),
+        b'p' => told_save(rt, card, text),
+        b'o' => told_load(rt, card, text),
+        _ => called_clock(rt, call, card, text),
     }
 }
 
-pub(crate) fn called(call: u8, card: Card, text: &[u8]) -> Card {
+pub(crate) fn called(rt: &impl Print, call: u8, card: Card, text: &[u8]) -> io::Result<Card> {
     match call {
         b'A' | b'G' | b'H' | b'J' | b'K' | b'f' | b'g' | b'c' | b'u' | b'P' => {
-            called_alone(call, text);
-            card
+            called_alone(rt, call, text)?;
+            Ok(card)
         }
         b'W' | b'm' | b'R' | b'Y' | b'y' => {
-            called_frame(call, card, text);
-            card
+            called_frame(rt, call, card, text)?;
+            Ok(card)
         }
         b'v' => {
-            put_card(card);
-            card
+            put_card(rt, card)?;
+            Ok(card)
         }
-        _ => called_card(call, card, text),
+        _ => called_card(rt, call, card, text),
     }
 }

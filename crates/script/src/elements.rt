@@ -1,7 +1,7 @@
 // The elements of a row in a line: a character for each, without spaces, whose code is 48 above the element, from 0 on again behind 255. So 0 to 9 are their digits, and / is 255.
 ghost use Rattle.std.specs.Prelude.{◌≤◌, length};
 
-use libc::STDOUT_FILENO;
+use std::io;
 use std::num::{wrapping_add_u8, wrapping_sub_u8};
 
 // The place behind so many spaces; the text's end where there are fewer.
@@ -41,10 +41,10 @@ pub(crate) fn elements_at(text: &[u8], spaces: usize, row: &mut [u8]) -> usize
 }
 
 // Writes the elements of a row behind a space. The row has their characters afterwards.
-pub(crate) fn put_elements(row: &mut [u8]) {
+pub(crate) fn put_elements(rt: &impl Print, row: &mut [u8]) -> io::Result<()> {
     for i in 0..row.len() {
         row[i] = wrapping_add_u8(row[i], b'0');
     }
-    io::write_all(STDOUT_FILENO, b" ");
-    io::write_all(STDOUT_FILENO, row);
+    rt.write_all(b" ")?;
+    rt.write_all(row)
 }

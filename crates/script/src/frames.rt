@@ -9,44 +9,45 @@ use cases::{byte_at, number_at};
 use irig::reading::read_frame;
 use irig::stream::{Finished, RowTaken, Stream, is_lawful, take_row};
 use irig::writing::write_frame;
+use std::io;
 use wire::words::TimeRead;
 
-pub(crate) fn put_read(t: TimeRead) {
-    put_byte(t.number);
-    put_short(t.day);
-    put(t.tick.ticks);
+pub(crate) fn put_read(rt: &impl Print, t: TimeRead) -> io::Result<()> {
+    put_byte(rt, t.number)?;
+    put_short(rt, t.day)?;
+    put(rt, t.tick.ticks)
 }
 
-fn told_written(number: u8, row: [u8; 104]) {
-    put_byte(number);
+fn told_written(rt: &impl Print, number: u8, row: [u8; 104]) -> io::Result<()> {
+    put_byte(rt, number)?;
     let mut places = row;
-    put_elements(&mut places);
+    put_elements(rt, &mut places)
 }
 
 // 104 places, of which so many are lent.
-fn told_writing(card: Card, text: &[u8]) {
+fn told_writing(rt: &impl Print, card: Card, text: &[u8]) -> io::Result<()> {
     let mut row = [7u8; 104];
     let from: usize = 0;
     let places = count_at(text, 104);
     let number = write_frame(card, &mut row[from..places]);
-    told_written(number, row);
+    told_written(rt, number, row)
 }
 
 // The card's frame with another element at a place, read.
-fn told_changed(card: Card, place: usize, element: u8)
+fn told_changed(rt: &impl Print, card: Card, place: usize, element: u8) -> io::Result<()>
     requires { place < 104 }
 {
     let mut row = [7u8; 104];
     write_frame(card, &mut row);
     row[place] = element;
-    put_read(read_frame(&row));
+    put_read(rt, read_frame(&row))
 }
 
-fn told_reading(text: &[u8]) {
+fn told_reading(rt: &impl Print, text: &[u8]) -> io::Result<()> {
     let mut row = [0u8; 256];
     let from: usize = 0;
     let n = elements_at(text, 1, &mut row);
-    put_read(read_frame(&row[from..n]));
+    put_read(rt, read_frame(&row[from..n]))
 }
 
 // A stream's record of any kind: zeros stand behind the elements that the line has.
@@ -60,46 +61,46 @@ fn stream_at(text: &[u8]) -> Stream {
     }
 }
 
-fn put_stream(stream: Stream) {
-    put(stream.held as u64);
-    put_bool(stream.marked);
+fn put_stream(rt: &impl Print, stream: Stream) -> io::Result<()> {
+    put(rt, stream.held as u64)?;
+    put_bool(rt, stream.marked)?;
     let mut elements = stream.elements;
-    put_elements(&mut elements);
+    put_elements(rt, &mut elements)
 }
 
 // 0, or 1 and what the frame is read as.
-fn put_finished(finished: Finished) {
+fn put_finished(rt: &impl Print, finished: Finished) -> io::Result<()> {
     match finished {
-        Finished::Nothing => put_bool(false),
+        Finished::Nothing => put_bool(rt, false),
         Finished::Frame(time) => {
-            put_bool(true);
-            put_read(time);
+            put_bool(rt, true)?;
+            put_read(rt, time)
         }
     }
 }
 
-fn told_taken(t: RowTaken) {
-    put_byte(t.number);
-    put(t.taken as u64);
+fn told_taken(rt: &impl Print, t: RowTaken) -> io::Result<()> {
+    put_byte(rt, t.number)?;
+    put(rt, t.taken as u64)?;
     let finished = t.finished;
-    put_finished(finished);
+    put_finished(rt, finished)?;
     let stream = t.stream;
-    put_stream(stream);
+    put_stream(rt, stream)
 }
 
-fn told_row(text: &[u8]) {
+fn told_row(rt: &impl Print, text: &[u8]) -> io::Result<()> {
     let mut row = [0u8; 256];
     let from: usize = 0;
     let n = elements_at(text, 4, &mut row);
-    told_taken(take_row(stream_at(text), &row[from..n]));
+    told_taken(rt, take_row(stream_at(text), &row[from..n]))
 }
 
-pub(crate) fn called_frame(call: u8, card: Card, text: &[u8]) {
+pub(crate) fn called_frame(rt: &impl Print, call: u8, card: Card, text: &[u8]) -> io::Result<()> {
     match call {
-        b'W' => told_writing(card, text),
-        b'm' => told_changed(card, count_at(text, 103), byte_at(text, 2)),
-        b'R' => told_reading(text),
-        b'Y' => told_row(text),
-        _ => put_bool(is_lawful(stream_at(text))),
+        b'W' => told_writing(rt, card, text),
+        b'm' => told_changed(rt, card, count_at(text, 103), byte_at(text, 2)),
+        b'R' => told_reading(rt, text),
+        b'Y' => told_row(rt, text),
+        _ => put_bool(rt, is_lawful(stream_at(text))),
     }
 }

@@ -14,23 +14,24 @@ mod packets;
 use crate::calls::called;
 use card::card::Card;
 use card::reset::fresh_card;
-use libc::{STDIN_FILENO, STDOUT_FILENO};
+use std::io;
+use std::io::Read;
 
 // A line's words are written, and behind them what its call gives back. A line without words only changes the card; one without a call is only said.
-fn line(card: Card, words: &[u8], text: &[u8]) -> Card {
-    io::write_all(STDOUT_FILENO, words);
+fn line(rt: &impl Print, card: Card, words: &[u8], text: &[u8]) -> io::Result<Card> {
+    rt.write_all(words)?;
     if text.len() == 0 {
-        io::write_all(STDOUT_FILENO, b"\n");
-        return card;
+        rt.write_all(b"\n")?;
+        return Ok(card);
     }
-    let c = called(text[0], card, text);
+    let c = called(rt, text[0], card, text)?;
     if words.len() != 0 {
-        io::write_all(STDOUT_FILENO, b"\n");
+        rt.write_all(b"\n")?;
     }
-    c
+    Ok(c)
 }
 
-fn run_lines(lines: &[u8]) {
+fn run_lines(rt: &impl Print, lines: &[u8]) -> io::Result<()> {
     let mut card = fresh_card();
     let mut from: usize = 0;
     let mut bar: usize = 0;
@@ -43,18 +44,17 @@ fn run_lines(lines: &[u8]) {
                 if bar < i {
                     let words = &lines[from..bar];
                     from = i + 1;
-                    card = line(card, words, &lines[bar + 1..i]);
+                    card = line(rt, card, words, &lines[bar + 1..i])?;
                 }
             }
         }
     }
+    Ok(())
 }
 
-// All lines of standard input, which one reading takes: 65536 bytes at most.
-pub fn run() {
-    let mut lines = io::large_buffer();
-    let got = libc::read(STDIN_FILENO, &mut lines);
-    let n = io::count(got, &lines);
-    let from: usize = 0;
-    run_lines(&lines[from..n]);
+// All lines of standard input, which one reading takes: 65536 bytes at most. A read or a write that fails is the end.
+pub fn run(rt: &(impl Input + Print)) -> io::Result<()> {
+    let mut lines = [0u8; 65536];
+    let n = rt.reader().read(&mut lines)?;
+    run_lines(rt, &lines[..n])
 }

@@ -6,27 +6,27 @@
 
 ghost use Rattle.std.specs.Prelude.{◌≤◌, length};
 
-use libc::{STDIN_FILENO, STDOUT_FILENO};
 use listing::feeding::{Bench, feed, finish, start};
+use std::io;
+use std::io::Read;
 
-// The bench after a part of the input, whether to go on, and whether all that was to be written could be.
+// The bench after a part of the input, and whether to go on.
 #[derive(Clone, Copy)]
 struct Kept {
     bench: Bench,
     going: bool,
-    whole: bool,
 }
 
-// Writes the first bytes of a row, and answers whether that could be done.
-fn write_front(row: &[u8], n: usize) -> bool
+// Writes the first bytes of a row.
+fn write_front(rt: &impl Print, row: &[u8], n: usize) -> io::Result<()>
     requires { n ≤ length row.now }
 {
     let from: usize = 0;
-    io::write_all(STDOUT_FILENO, &row[from..n])
+    rt.write_all(&row[from..n])
 }
 
 // Feeds a part of the input, and writes the lines out whenever the row has no room for one more, and at the part's end.
-fn feed_part(bench: Bench, part: &[u8], row: &mut [u8]) -> Kept {
+fn feed_part(rt: &impl Print, bench: Bench, part: &[u8], row: &mut [u8]) -> io::Result<Kept> {
     let mut kept = bench;
     let mut from: usize = 0;
     while from < part.len() {
@@ -34,70 +34,64 @@ fn feed_part(bench: Bench, part: &[u8], row: &mut [u8]) -> Kept {
         let next = fed.bench;
         kept = next;
         if fed.taken == 0 {
-            return Kept {
+            return Ok(Kept {
                 bench: kept,
                 going: false,
-                whole: true,
-            };
+            });
         }
-        if !write_front(row, fed.written) {
-            return Kept {
-                bench: kept,
-                going: false,
-                whole: false,
-            };
-        }
+        write_front(rt, row, fed.written)?;
         from += fed.taken;
     }
-    Kept {
+    Ok(Kept {
         bench: kept,
         going: true,
-        whole: true,
-    }
+    })
 }
 
-// Reads once, and feeds what came. A read that fails or gives nothing is the end.
-fn feed_some(bench: Bench, input: &mut [u8], row: &mut [u8]) -> Kept {
-    let got = libc::read(STDIN_FILENO, input);
-    if got <= 0 {
-        return Kept {
+// Reads once, and feeds what came. A read that gives nothing is the end.
+fn feed_some(
+    rt: &impl Print,
+    reader: &mut impl Read,
+    bench: Bench,
+    input: &mut [u8],
+    row: &mut [u8],
+) -> io::Result<Kept> {
+    let n = reader.read(input)?;
+    if n == 0 {
+        return Ok(Kept {
             bench: bench,
             going: false,
-            whole: true,
-        };
+        });
     }
-    let n = io::count(got, input);
     let from: usize = 0;
-    feed_part(bench, &input[from..n], row)
+    feed_part(rt, bench, &input[from..n], row)
 }
 
-// Feeds all of the input, and at its end the last rest. Nothing says that an input ends, so the loop counts its turns down, from a number that no run
+// Feeds all of the input, and at its end the last rest. Nothing says that an input ends, so the loop counts its turns, up to a number that no run
 // uses up.
-fn run(input: &mut [u8], row: &mut [u8]) {
+fn run(
+    rt: &impl Print,
+    reader: &mut impl Read,
+    input: &mut [u8],
+    row: &mut [u8],
+) -> io::Result<()> {
     let mut bench = start();
-    let mut whole = true;
-    let mut turns = u64::MAX;
-    while 0 < turns {
-        let kept = feed_some(bench, input, row);
+    for _ in 0..u64::MAX {
+        let kept = feed_some(rt, reader, bench, input, row)?;
         let next = kept.bench;
         bench = next;
-        whole = kept.whole;
-        turns -= 1;
         if !kept.going {
-            turns = 0;
+            break;
         }
     }
-    if whole {
-        let n = finish(bench, row);
-        write_front(row, n);
-    }
+    let n = finish(bench, row);
+    write_front(rt, row, n)
 }
 
-// The bench program: the header, and then the lines.
-pub fn bench() {
-    if io::write_all(STDOUT_FILENO, b"PKT ANS\n") {
-        let mut input = io::large_buffer();
-        let mut row = io::large_buffer();
-        run(&mut input, &mut row);
-    }
+// The bench program: the header, and then the lines. A read or a write that fails is the end.
+pub fn bench(rt: &(impl Input + Print)) -> io::Result<()> {
+    rt.write_all(b"PKT ANS\n")?;
+    let mut input = [0u8; 65536];
+    let mut row = [0u8; 65536];
+    run(rt, &mut rt.reader(), &mut input, &mut row)
 }

@@ -30,11 +30,13 @@ use card::card::Card;
 use cases::writing::put;
 use cases::{number_at, short_at};
 use clock::clock::{Periodic, Strobe};
-use libc::STDOUT_FILENO;
+use std::env::FillError;
+use std::io;
+use std::rt::Env;
 use wire::time::Milliseconds;
 
-// The longest row, which just fits a stack of 8 MiB.
-const LONGEST: usize = 1_000_000;
+// The longest row.
+const LONGEST: u64 = 1_000_000;
 
 // What a name comes to: the loop's checksum, or that no loop has it.
 #[derive(Clone, Copy)]
@@ -157,34 +159,29 @@ fn run(name: &[u8], times: usize, row: &mut [u64]) -> Outcome
 }
 
 // The line of a name.
-fn put_outcome(name: &[u8], outcome: Outcome) {
-    io::write_all(STDOUT_FILENO, name);
+fn put_outcome(rt: &impl Print, name: &[u8], outcome: Outcome) -> io::Result<()> {
+    rt.write_all(name)?;
     match outcome {
-        Outcome::Sum(sum) => put(sum),
-        Outcome::Unknown => {
-            io::write_all(STDOUT_FILENO, b" unknown");
-        }
+        Outcome::Sum(sum) => put(rt, sum)?,
+        Outcome::Unknown => rt.write_all(b" unknown")?,
     }
-    io::write_all(STDOUT_FILENO, b"\n");
+    rt.write_all(b"\n")
 }
 
 // The loop that an argument names.
-fn run_argument(i: usize, times: usize, row: &mut [u64])
+fn run_argument(rt: &impl Print, name: &[u8], times: usize, row: &mut [u64]) -> io::Result<()>
     requires { length row.old ≤ 1000000 }
 {
-    let mut text = [0u8; 64];
-    let n = os::arg(i, &mut text);
-    let from: usize = 0;
-    let name = &text[from..n];
-    put_outcome(name, run(name, times, row));
+    put_outcome(rt, name, run(name, times, row))
 }
 
-// The number that an argument is.
-fn number_of(i: usize) -> u64 {
+// The number that an argument is; 0 where there is none, and for one of more than 64 bytes.
+fn number_of(rt: &impl Env, i: usize) -> u64 {
     let mut text = [0u8; 64];
-    let n = os::arg(i, &mut text);
-    let from: usize = 0;
-    number_at(&text[from..n], 0)
+    match rt.arg(i, &mut text) {
+        Ok(n) => number_at(&text[..n], 0),
+        Err(_) => 0,
+    }
 }
 
 // The places of the row: at least one, and no more than there are.
@@ -194,25 +191,31 @@ fn room_of(n: u64) -> usize
     if n == 0 {
         return 1;
     }
-    if 1_000_000 < n {
-        return 1_000_000;
+    if LONGEST < n {
+        return LONGEST as usize;
     }
     n as usize
 }
 
-// The loops of all arguments behind the first two.
-fn run_arguments(times: usize, row: &mut [u64])
+// The loops of all arguments behind the first two. One of more than 64 bytes names no loop.
+fn run_arguments(rt: &(impl Env + Print), times: usize, row: &mut [u64]) -> io::Result<()>
     requires { length row.old ≤ 1000000 }
 {
-    for i in 3..os::arg_count() {
-        run_argument(i, times, row);
+    for i in 3..usize::MAX {
+        let mut text = [0u8; 64];
+        match rt.arg(i, &mut text) {
+            Ok(n) => run_argument(rt, &text[..n], times, row)?,
+            Err(FillError::TooLong) => run_argument(rt, b"", times, row)?,
+            Err(FillError::NotPresent) => break,
+        }
     }
+    Ok(())
 }
 
-fn main() {
-    let times = number_of(1) as usize;
-    let room = room_of(number_of(2));
-    let mut row = [0u64; LONGEST];
-    let from: usize = 0;
-    run_arguments(times, &mut row[from..room]);
+// A write that fails is the end, and so is a row that there is no memory for.
+fn main(rt: HostRuntime) -> io::Result<()> {
+    let times = number_of(&rt, 1) as usize;
+    let room = room_of(number_of(&rt, 2));
+    let mut row = vec![in rt.alloc(); 0u64; room]?;
+    run_arguments(&rt, times, &mut row)
 }

@@ -1,6 +1,8 @@
 // The script beside it: the words of times, every value of each pair of their digits among them.
 #![tactic(auto)]
 
-fn main() {
-    script::run();
+use std::io;
+
+fn main(rt: HostRuntime) -> io::Result<()> {
+    script::run(&rt)
 }

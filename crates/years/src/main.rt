@@ -10,15 +10,16 @@ use card::setting::set_time;
 use card::waiting::wait;
 use cases::writing::{put, put_byte, put_short};
 use clock::time::{Time, days_before};
-use libc::{STDIN_FILENO, STDOUT_FILENO};
+use std::io;
+use std::io::Read;
 use wire::time::Ticks;
 
 const SECOND: u64 = 10_000_000;
 
-fn put_time(t: Time) {
-    put_short(t.year);
-    put_short(t.day);
-    put(t.tick.ticks);
+fn put_time(rt: &impl Print, t: Time) -> io::Result<()> {
+    put_short(rt, t.year)?;
+    put_short(rt, t.day)?;
+    put(rt, t.tick.ticks)
 }
 
 // The card with a day in it, lawful or not.
@@ -36,52 +37,51 @@ fn holding(card: Card, year: u16, day: u16) -> Card {
 }
 
 // The day after the last one, set and held.
-fn put_beyond(card: Card, year: u16, day: u16) {
+fn put_beyond(rt: &impl Print, card: Card, year: u16, day: u16) -> io::Result<()> {
     let set = set_time(card, year, day, 23, 59, 59);
-    put_byte(set.number);
+    put_byte(rt, set.number)?;
     let line = interrupt_line(holding(card, year, day));
-    put_byte(line.number);
+    put_byte(rt, line.number)
 }
 
 // The last second, and a wait over its end.
-fn put_end(card: Card, year: u16, day: u16) {
+fn put_end(rt: &impl Print, card: Card, year: u16, day: u16) -> io::Result<()> {
     let set = set_time(card, year, day, 23, 59, 59);
-    put_byte(set.number);
+    put_byte(rt, set.number)?;
     let last = set.card;
     let mut row = [0u64; 1];
     let w = wait(last, Ticks { ticks: SECOND }, &mut row);
     let waited = w.waited;
-    put_byte(waited.number);
+    put_byte(rt, waited.number)?;
     let then = w.card;
     let clock = then.clock;
     let time = clock.time;
-    put_time(time);
+    put_time(rt, time)
 }
 
 // The line of a year. Of the digit, the low four bits are its value.
-fn put_year(card: Card, year: u16, digit: u8) {
+fn put_year(rt: &impl Print, card: Card, year: u16, digit: u8) -> io::Result<()> {
     let days = 360 + ((digit % 16) as u16);
-    put_short(year);
-    put_short(days);
-    put_beyond(card, year, days + 1);
-    put_end(card, year, days);
-    put(days_before(year) as u64);
-    io::write_all(STDOUT_FILENO, b"\n");
+    put_short(rt, year)?;
+    put_short(rt, days)?;
+    put_beyond(rt, card, year, days + 1)?;
+    put_end(rt, card, year, days)?;
+    put(rt, days_before(year) as u64)?;
+    rt.write_all(b"\n")
 }
 
 // The years go round after 9999, so that any input will do.
-fn put_years(digits: &[u8]) {
+fn put_years(rt: &impl Print, digits: &[u8]) -> io::Result<()> {
     let card = fresh_card();
     for i in 0..digits.len() {
-        put_year(card, ((i + 1) % 10_000) as u16, digits[i]);
+        put_year(rt, card, ((i + 1) % 10_000) as u16, digits[i])?;
     }
+    Ok(())
 }
 
-// One reading takes all of it.
-fn main() {
-    let mut digits = io::large_buffer();
-    let got = libc::read(STDIN_FILENO, &mut digits);
-    let n = io::count(got, &digits);
-    let from: usize = 0;
-    put_years(&digits[from..n]);
+// One reading takes all of it. A read or a write that fails is the end.
+fn main(rt: HostRuntime) -> io::Result<()> {
+    let mut digits = [0u8; 65536];
+    let n = rt.reader().read(&mut digits)?;
+    put_years(&rt, &digits[..n])
 }
