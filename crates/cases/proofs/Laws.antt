@@ -18,14 +18,14 @@ abbrev pub Found : List ℕ → ℕ → ℕ → ℕ → ℕ → Type 0
 Found text place left n i = with_digits n (piece_at left (drop i text)) ≡ number_at place text
 
 -- the number ends at a space, if none is to come
-ends-here : (t : Bool) (n b : ℕ) (bs : List ℕ) → t ≡ true → n ≡ with_digits n (pick t [] (b ∷ piece_at 0 bs))
+ends_here : (t : Bool) (n b : ℕ) (bs : List ℕ) → t ≡ true → n ≡ with_digits n (pick t [] (b ∷ piece_at 0 bs))
 unfolding with_digits
-ends-here true n b bs e = refl
-ends-here false n b bs e = clash (sym e)
+ends_here true n b bs e = refl
+ends_here false n b bs e = clash (sym e)
 
 ends : (left n b : ℕ) (bs : List ℕ) → (eqb left 0 && eqb b 32) ≡ true → n ≡ with_digits n (piece_at left (b ∷ bs))
 unfolding piece_at
-ends zero n b bs e = ends-here (eqb b 32) n b bs e
+ends zero n b bs e = ends_here (eqb b 32) n b bs e
 ends (suc left) n b bs e = clash (sym e ∙ ap (λ (t : Bool). t && eqb b 32) (ne_eqb (suc left) 0 (λ q. omega arith)))
 
 -- else a byte of the number joins it, and any other leaves it
@@ -51,9 +51,9 @@ at_place text left n i l = ap (λ (bs : List ℕ). with_digits n (piece_at left 
 pub found_here : (text : List ℕ) (place left n i : ℕ) → i < length text → Found text place left n i → (eqb left 0 && eqb (get_or text i 0) 32) ≡ true → n ≡ number_at place text
 found_here text place left n i l f e = ends left n (get_or text i 0) (drop (i + 1) text) e ∙ at_place text left n i l ∙ f
 
-pub found-on : (text : List ℕ) (place left n i : ℕ) → i < length text → Found text place left n i → (eqb left 0 && eqb (get_or text i 0) 32) ≡ false
+pub found_on : (text : List ℕ) (place left n i : ℕ) → i < length text → Found text place left n i → (eqb left 0 && eqb (get_or text i 0) 32) ≡ false
     → Found text place (pick (eqb (get_or text i 0) 32) (left - 1) left) (pick (eqb left 0) (with_digit n (get_or text i 0)) n) (i + 1)
-found-on text place left n i l f e = sym (goes left n (get_or text i 0) (drop (i + 1) text) e) ∙ at_place text left n i l ∙ f
+found_on text place left n i l f e = sym (goes left n (get_or text i 0) (drop (i + 1) text) e) ∙ at_place text left n i l ∙ f
 
 pub found_all_lem : (text : List ℕ) (place left n i : ℕ) → length text ≤ i → Found text place left n i → n ≡ number_at place text
 unfolding piece_at with_digits

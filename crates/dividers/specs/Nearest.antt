@@ -11,9 +11,9 @@ use Rattle.dividers.specs.Pairs.{pair, lawful, product, period, distance}
 -- a lawful pair is nearest if no lawful pair has a smaller distance, none of equal distance has a smaller product, and none of equal product a smaller n1
 pub record IsNearest (wanted : ℕ) (p : Pair) : Type 0 where
   pub fits : lawful p ≡ true
-  pub least-distance : (q : Pair) → lawful q ≡ true → distance wanted p ≤ distance wanted q
-  pub least-product : (q : Pair) → lawful q ≡ true → distance wanted q ≡ distance wanted p → product p ≤ product q
-  pub least-n1 : (q : Pair) → lawful q ≡ true → product q ≡ product p → p.n1 ≤ q.n1
+  pub least_distance : (q : Pair) → lawful q ≡ true → distance wanted p ≤ distance wanted q
+  pub least_product : (q : Pair) → lawful q ≡ true → distance wanted q ≡ distance wanted p → product p ≤ product q
+  pub least_n1 : (q : Pair) → lawful q ≡ true → product q ≡ product p → p.n1 ≤ q.n1
 
 -- THE ONE PAIR
 
@@ -32,7 +32,7 @@ first_of wanted f (suc n) = pick (before wanted (f (suc n)) (first_of wanted f n
 unfoldable pub with_n1 : ℕ → ℕ → Pair
 with_n1 wanted n1 = first_of wanted (λ (k : ℕ). pair n1 (2 + k)) 65533
 
--- of all lawful pairs, over n1 from 2 to 65,535: it is nearest by the plain rule, and no other pair is (law `nearest-exactly-if` of proofs/nearest/Laws.antt)
+-- of all lawful pairs, over n1 from 2 to 65,535: it is nearest by the plain rule, and no other pair is (law `nearest_exactly_if` of proofs/nearest/Laws.antt)
 unfoldable pub nearest : ℕ → Pair
 nearest wanted = first_of wanted (λ (k : ℕ). with_n1 wanted (2 + k)) 65533
 

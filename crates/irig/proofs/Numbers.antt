@@ -13,13 +13,13 @@ use Rattle.wire.specs.Numbers.{Line, ◌if◌, given, quiet, absent}
 use Rattle.wire.specs.Words.{day_in, tick_in, time_read}
 use Rattle.wire.specs.declared.words.TimeRead.{TimeRead}
 use Rattle.wire.proofs.digits.Laws.{picked, zero_or}
-use Rattle.wire.proofs.numbers.Laws.{given-exactly, given-zero}
+use Rattle.wire.proofs.numbers.Laws.{given_exactly, given_zero}
 use Rattle.irig.specs.declared.stream.Stream.{Stream}
 use Rattle.irig.specs.declared.stream.Finished.TheVariants as Finished
 use Rattle.irig.specs.declared.stream.RowTaken.{RowTaken}
 use Rattle.irig.specs.Reading.{digits_in, read_lines, read_refusal, read_frame}
 use Rattle.irig.specs.Streams.{lawful, next, frame_ends, behind, row_taken, one_by_one, take_row}
-use Rattle.irig.proofs.stream.Laws.{take-18, take-lawful}
+use Rattle.irig.proofs.stream.Laws.{take_18, take_lawful}
 
 -- READING A FRAME
 
@@ -35,18 +35,18 @@ module _ (row : List ℕ) where
   by_lines = read_number_lem
 
   -- 0 exactly if no line holds
-  pub read-done-exactly-if : (read_frame row).number ≡ 0 ↔ quiet (read_lines row) ≡ true
-  read-done-exactly-if = rw by_lines (given-zero (read_lines row) refl)
+  pub read_done_exactly_if : (read_frame row).number ≡ 0 ↔ quiet (read_lines row) ≡ true
+  read_done_exactly_if = rw by_lines (given_zero (read_lines row) refl)
 
   -- and any other number exactly if its line holds and no line above it does
-  pub read-exactly-if : (n : ℕ) (above below : List Line) (t : Bool) → read_lines row ≡ above ++ (n if t ∷ below)
+  pub read_exactly_if : (n : ℕ) (above below : List Line) (t : Bool) → read_lines row ≡ above ++ (n if t ∷ below)
       → eqb n 0 ≡ false → absent n above ≡ true → absent n below ≡ true → (read_frame row).number ≡ n ↔ ((t ≡ true) × (quiet above ≡ true))
-  read-exactly-if n above below t l z x y = rw (by_lines ∙ ap given l) (given-exactly n above below t z x y)
+  read_exactly_if n above below t l z x y = rw (by_lines ∙ ap given l) (given_exactly n above below t z x y)
 
   -- beside a refusal stand day 0 and tick 0
-  pub read-beside : ((read_frame row).number ≡ 0 → ⊥) → read_frame row ≡ time_read (read_refusal row) 0 0
+  pub read_beside : ((read_frame row).number ≡ 0 → ⊥) → read_frame row ≡ time_read (read_refusal row) 0 0
   unfolding read_frame
-  read-beside h = simp (ne_eqb (read_refusal row) 0 (λ e. h (read_number_lem ∙ e)))
+  read_beside h = simp (ne_eqb (read_refusal row) 0 (λ e. h (read_number_lem ∙ e)))
 
 -- TAKING A ROW
 
@@ -63,24 +63,24 @@ one_number (e ∷ es) s =
     either false = refl
 
 -- 18 exactly if the record is not lawful, and 0 exactly if it is
-pub take-eighteen : (s : Stream) (row : List ℕ) → (take_row s row).number ≡ 18 ↔ lawful s ≡ false
-take-eighteen s row = (go (lawful s) refl, λ h. ap (λ (t : RowTaken). t.number) (sym (take-18 s row h)))
+pub take_eighteen : (s : Stream) (row : List ℕ) → (take_row s row).number ≡ 18 ↔ lawful s ≡ false
+take_eighteen s row = (go (lawful s) refl, λ h. ap (λ (t : RowTaken). t.number) (sym (take_18 s row h)))
   where
     go : (t : Bool) → lawful s ≡ t → (take_row s row).number ≡ 18 → lawful s ≡ false
-    go true h n = absurd (let q : 0 ≡ 18 = sym (one_number row s) ∙ ap (λ (t : RowTaken). t.number) (take-lawful s row h) ∙ n in omega arith)
+    go true h n = absurd (let q : 0 ≡ 18 = sym (one_number row s) ∙ ap (λ (t : RowTaken). t.number) (take_lawful s row h) ∙ n in omega arith)
     go false h n = h
 
 pub take_done : (s : Stream) (row : List ℕ) → (take_row s row).number ≡ 0 ↔ lawful s ≡ true
-take_done s row = (go (lawful s) refl, λ h. ap (λ (t : RowTaken). t.number) (sym (take-lawful s row h)) ∙ one_number row s)
+take_done s row = (go (lawful s) refl, λ h. ap (λ (t : RowTaken). t.number) (sym (take_lawful s row h)) ∙ one_number row s)
   where
     go : (t : Bool) → lawful s ≡ t → (take_row s row).number ≡ 0 → lawful s ≡ true
     go true h n = h
-    go false h n = absurd (let q : 18 ≡ 0 = ap (λ (t : RowTaken). t.number) (take-18 s row h) ∙ n in omega arith)
+    go false h n = absurd (let q : 18 ≡ 0 = ap (λ (t : RowTaken). t.number) (take_18 s row h) ∙ n in omega arith)
 
 -- beside it the record is as it was, nothing is taken and nothing finished
-pub take-refused : (s : Stream) (row : List ℕ) → ((take_row s row).number ≡ 0 → ⊥) → take_row s row ≡ row_taken s 18 0 Finished.Nothing
-take-refused s row h = go (lawful s) refl
+pub take_refused : (s : Stream) (row : List ℕ) → ((take_row s row).number ≡ 0 → ⊥) → take_row s row ≡ row_taken s 18 0 Finished.Nothing
+take_refused s row h = go (lawful s) refl
   where
     go : (t : Bool) → lawful s ≡ t → take_row s row ≡ row_taken s 18 0 Finished.Nothing
     go true l = absurd (h ((take_done s row).1 l))
-    go false l = sym (take-18 s row l)
+    go false l = sym (take_18 s row l)

@@ -16,14 +16,14 @@ use Rattle.irig.specs.declared.stream.RowTaken.{RowTaken}
 use Rattle.irig.specs.Reading.{read_frame}
 use Rattle.irig.specs.Streams.{fresh_stream, lawful, next, frame_ends, behind, one_by_one, take_row}
 use Rattle.irig.specs.Finding.{frames, after_all, taken_all, found_by, found_all, handed, in_parts, joined}
-use Rattle.irig.proofs.stream.Laws.{take-lawful}
-use Rattle.irig.proofs.Finding.{run-finds}
-use Rattle.irig.proofs.Reached.{Sound, fresh-sound, keeps-all}
+use Rattle.irig.proofs.stream.Laws.{take_lawful}
+use Rattle.irig.proofs.Finding.{run_finds}
+use Rattle.irig.proofs.Reached.{Sound, fresh_sound, keeps_all}
 
 -- WHAT A CALL TAKES
 
-frame-is-something : (t : TimeRead) → ◌≡◌ {A = Finished} (Finished.Frame t) Finished.Nothing → ⊥
-frame-is-something t e = let q : ◌≡◌ {A = ℕ} 1 0 = ap (λ (f : Finished). length (found_by 0 f)) e in omega arith
+frame_is_something : (t : TimeRead) → ◌≡◌ {A = Finished} (Finished.Frame t) Finished.Nothing → ⊥
+frame_is_something t e = let q : ◌≡◌ {A = ℕ} 1 0 = ap (λ (f : Finished). length (found_by 0 f)) e in omega arith
 
 some : (s : Stream) (e : ℕ) (es : List ℕ) → 1 ≤ (one_by_one s (e ∷ es)).taken
 unfolding one_by_one
@@ -33,54 +33,54 @@ some s e es = by (eqb (next s e).held 100)
     by true = omega arith
     by false = omega arith
 
-takes-rest : (row : List ℕ) (s : Stream) → (one_by_one s row).finished ≡ Finished.Nothing → (one_by_one s row).taken ≡ length row
+takes_rest : (row : List ℕ) (s : Stream) → (one_by_one s row).finished ≡ Finished.Nothing → (one_by_one s row).taken ≡ length row
 unfolding one_by_one
-takes-rest [] s f = refl
-takes-rest (e ∷ es) s f = by (eqb (next s e).held 100) f (takes-rest es (next s e))
+takes_rest [] s f = refl
+takes_rest (e ∷ es) s f = by (eqb (next s e).held 100) f (takes_rest es (next s e))
   where
     by : (t : Bool) → (pick t (frame_ends (next s e) e) (behind 1 (one_by_one (next s e) es))).finished ≡ Finished.Nothing
         → ((one_by_one (next s e) es).finished ≡ Finished.Nothing → (one_by_one (next s e) es).taken ≡ length es)
         → (pick t (frame_ends (next s e) e) (behind 1 (one_by_one (next s e) es))).taken ≡ suc (length es)
-    by true g r = absurd (frame-is-something (read_frame (next s e).elements) g)
+    by true g r = absurd (frame_is_something (read_frame (next s e).elements) g)
     by false g r = let q = r g in omega arith
 
 -- a call on a lawful record takes at least one element of a row that has one
-pub takes-some : (s : Stream) (e : ℕ) (es : List ℕ) → lawful s ≡ true → 1 ≤ (take_row s (e ∷ es)).taken
-takes-some s e es h = rw (sym (take-lawful s (e ∷ es) h)) (some s e es)
+pub takes_some : (s : Stream) (e : ℕ) (es : List ℕ) → lawful s ≡ true → 1 ≤ (take_row s (e ∷ es)).taken
+takes_some s e es h = rw (sym (take_lawful s (e ∷ es) h)) (some s e es)
 
 -- and all of it, if it finishes no frame
 pub takes_all : (s : Stream) (row : List ℕ) → lawful s ≡ true → (take_row s row).finished ≡ Finished.Nothing → (take_row s row).taken ≡ length row
-takes_all s row h f = ap (λ (t : RowTaken). t.taken) (sym (take-lawful s row h)) ∙ takes-rest row s (ap (λ (t : RowTaken). t.finished) (take-lawful s row h) ∙ f)
+takes_all s row h f = ap (λ (t : RowTaken). t.taken) (sym (take_lawful s row h)) ∙ takes_rest row s (ap (λ (t : RowTaken). t.finished) (take_lawful s row h) ∙ f)
 
 -- WHAT CALLS TAKE TOGETHER
 
-take-both : (rows rows' : List (List ℕ)) (s : Stream) → taken_all (rows ++ rows') s ≡ taken_all rows s ++ taken_all rows' (after_all rows s)
-take-both [] rows' s = refl
-take-both (row ∷ rows) rows' s =
-    ap (λ (l : List ℕ). take (take_row s row).taken row ++ l) (take-both rows rows' (take_row s row).stream)
+take_both : (rows rows' : List (List ℕ)) (s : Stream) → taken_all (rows ++ rows') s ≡ taken_all rows s ++ taken_all rows' (after_all rows s)
+take_both [] rows' s = refl
+take_both (row ∷ rows) rows' s =
+    ap (λ (l : List ℕ). take (take_row s row).taken row ++ l) (take_both rows rows' (take_row s row).stream)
     ∙ sym (append_assoc (take (take_row s row).taken row) (taken_all rows (take_row s row).stream) (taken_all rows' (after_all rows (take_row s row).stream)))
 
 -- a part is taken whole
-handed-taken : (n : ℕ) (part : List ℕ) (s : Stream) → length part ≤ n → Sound s → taken_all (handed n s part) s ≡ part
+handed_taken : (n : ℕ) (part : List ℕ) (s : Stream) → length part ≤ n → Sound s → taken_all (handed n s part) s ≡ part
 unfolding handed
-handed-taken zero [] s l k = refl
-handed-taken zero (e ∷ es) s l k = absurd (omega arith)
-handed-taken (suc n) [] s l k = refl
-handed-taken (suc n) (e ∷ es) s l k =
+handed_taken zero [] s l k = refl
+handed_taken zero (e ∷ es) s l k = absurd (omega arith)
+handed_taken (suc n) [] s l k = refl
+handed_taken (suc n) (e ∷ es) s l k =
     let t : ℕ = (take_row s (e ∷ es)).taken in
     let q : length (drop t (e ∷ es)) ≡ suc (length es) - t = length-drop t (e ∷ es) in
-    let m = takes-some s e es k.is_lawful in
-    ap (λ (r : List ℕ). take t (e ∷ es) ++ r) (handed-taken n (drop t (e ∷ es)) (take_row s (e ∷ es)).stream (omega arith) (keeps-all ((e ∷ es) ∷ []) s k))
+    let m = takes_some s e es k.is_lawful in
+    ap (λ (r : List ℕ). take t (e ∷ es) ++ r) (handed_taken n (drop t (e ∷ es)) (take_row s (e ∷ es)).stream (omega arith) (keeps_all ((e ∷ es) ∷ []) s k))
     ∙ take-append-drop t (e ∷ es)
 
-parts-taken : (parts : List (List ℕ)) (s : Stream) → Sound s → taken_all (in_parts parts s) s ≡ joined parts
+parts_taken : (parts : List (List ℕ)) (s : Stream) → Sound s → taken_all (in_parts parts s) s ≡ joined parts
 unfolding in_parts
-parts-taken [] s k = refl
-parts-taken (part ∷ parts) s k =
+parts_taken [] s k = refl
+parts_taken (part ∷ parts) s k =
     let rows : List (List ℕ) = handed (length part) s part in
-    take-both rows (in_parts parts (after_all rows s)) s
-    ∙ ap₂ ◌++◌ (handed-taken (length part) part s (le_refl (length part)) k) (parts-taken parts (after_all rows s) (keeps-all rows s k))
+    take_both rows (in_parts parts (after_all rows s)) s
+    ∙ ap₂ ◌++◌ (handed_taken (length part) part s (le_refl (length part)) k) (parts_taken parts (after_all rows s) (keeps_all rows s k))
 
 -- a stream that is handed over in parts, cut anywhere, gives the frames of the whole: nothing is lost or found twice at a cut
-pub parts-find : (parts : List (List ℕ)) → found_all 0 (in_parts parts fresh_stream) fresh_stream ≡ frames (joined parts)
-parts-find parts = run-finds (in_parts parts fresh_stream) ∙ ap frames (parts-taken parts fresh_stream fresh-sound)
+pub parts_find : (parts : List (List ℕ)) → found_all 0 (in_parts parts fresh_stream) fresh_stream ≡ frames (joined parts)
+parts_find parts = run_finds (in_parts parts fresh_stream) ∙ ap frames (parts_taken parts fresh_stream fresh_sound)

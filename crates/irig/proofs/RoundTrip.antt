@@ -15,48 +15,48 @@ use Rattle.wire.specs.Digits.{pick, digits}
 use Rattle.wire.specs.Time.{whole_seconds, without_fraction}
 use Rattle.wire.specs.Words.{time_digits, writable, decimal, day_in, tick_in, time_read}
 use Rattle.wire.specs.declared.words.TimeRead.{TimeRead}
-use Rattle.wire.proofs.numbers.Laws.{given-zero, quiet-first}
-use Rattle.wire.proofs.time.Laws.{hour-whole, minute-whole, second-whole, fraction-whole}
-use Rattle.wire.proofs.words.Laws.{in-ranges, writable-day, writable-tick, time-digits}
-use Rattle.wire.proofs.words.RoundTrip.{digits_decimal, digits-in-range, day-back, tick-back, digits-again, again-writable}
+use Rattle.wire.proofs.numbers.Laws.{given_zero, quiet_first}
+use Rattle.wire.proofs.time.Laws.{hour_whole, minute_whole, second_whole, fraction_whole}
+use Rattle.wire.proofs.words.Laws.{in_ranges, writable_day, writable_tick, time_digits_lem}
+use Rattle.wire.proofs.words.RoundTrip.{digits_decimal, digits_in_range_lem, day_back, tick_back, digits_again, again_writable}
 use Rattle.card.specs.declared.card.Card.{Card}
 use Rattle.card.specs.Lawful.{lawful}
 use Rattle.irig.specs.Table.{Field, Element, table, at, digit_of}
 use Rattle.irig.specs.Writing.{field_of, element_of, frame_of, write_refusal, row_written}
 use Rattle.irig.specs.Reading.{fits, all_fit, clear, spares_clear, field_in, digits_of, digits_in, digits_in_range, read_lines, read_refusal, read_frame}
-use Rattle.irig.proofs.table.Laws.{all-at, all_of, at_place, hundred-of, field-of, fit_at, bit-back}
+use Rattle.irig.proofs.table.Laws.{all_at, all_of, at_place, hundred_of, field_of_lem, fit_at, bit_back}
 use Rattle.irig.proofs.Numbers.{read_number_lem}
-use Rattle.irig.proofs.reading.Hundred.{digits-alike}
+use Rattle.irig.proofs.reading.Hundred.{digits_alike}
 use Rattle.irig.proofs.reading.Laws.{no_fraction}
-use Rattle.irig.proofs.writing.Laws.{plain, field_is, field-within, time-writable}
+use Rattle.irig.proofs.writing.Laws.{plain, field_is, field_within, time_writable}
 
 -- A FRAME AND ITS ELEMENTS
 
-pub frame-hundred : (day tick : ℕ) → length (frame_of day tick) ≡ 100
+pub frame_hundred : (day tick : ℕ) → length (frame_of day tick) ≡ 100
 unfolding frame_of
-frame-hundred day tick = hundred-of (element_of (field_of day tick))
+frame_hundred day tick = hundred_of (element_of (field_of day tick))
 
 frame_at : (day tick : ℕ) (rest : List ℕ) (j : ℕ) → j < 100 → get_or (frame_of day tick ++ rest) j 0 ≡ element_of (field_of day tick) (at j)
 unfolding frame_of
 frame_at day tick rest j l =
-    get_or-append (map (element_of (field_of day tick)) table) rest 0 j (rw (hundred-of (element_of (field_of day tick))) l) ∙ at_place (element_of (field_of day tick)) j l
+    get_or-append (map (element_of (field_of day tick)) table) rest 0 j (rw (hundred_of (element_of (field_of day tick))) l) ∙ at_place (element_of (field_of day tick)) j l
 
-element-fits : (v : Field → ℕ) (t : Element) → fits t (element_of v t) ≡ true
+element_fits : (v : Field → ℕ) (t : Element) → fits t (element_of v t) ≡ true
 unfolding fits element_of digit_of
-element-fits v Element.marker = refl
-element-fits v Element.spare = refl
-element-fits v (Element.bit f i) = lt-ltb (v f / 2 ^ i % 2) 2 (mod-lt (v f / 2 ^ i) (lit< tt))
+element_fits v Element.marker = refl
+element_fits v Element.spare = refl
+element_fits v (Element.bit f i) = lt-ltb (v f / 2 ^ i % 2) 2 (mod-lt (v f / 2 ^ i) (lit< tt))
 
-element-clear : (v : Field → ℕ) (t : Element) → clear t (element_of v t) ≡ true
+element_clear : (v : Field → ℕ) (t : Element) → clear t (element_of v t) ≡ true
 unfolding clear element_of
-element-clear v Element.marker = refl
-element-clear v Element.spare = refl
-element-clear v (Element.bit f i) = refl
+element_clear v Element.marker = refl
+element_clear v Element.spare = refl
+element_clear v (Element.bit f i) = refl
 
 -- the digits of a time without its fraction
-plain-digits : (day tick : ℕ) → digits_of (plain day tick) ≡ time_digits day (without_fraction tick)
+plain_digits : (day tick : ℕ) → digits_of (plain day tick) ≡ time_digits day (without_fraction tick)
 unfolding digits_of digits
-plain-digits day tick = cc (hour-whole tick, minute-whole tick, second-whole tick, fraction-whole tick, time-digits day (without_fraction tick))
+plain_digits day tick = cc (hour_whole tick, minute_whole tick, second_whole tick, fraction_whole tick, time_digits_lem day (without_fraction tick))
 
 -- WRITTEN, THEN READ
 
@@ -68,50 +68,50 @@ module _ (day tick : ℕ) (w : writable day tick ≡ true) (rest : List ℕ) whe
   v = field_of day tick
 
   long : 100 ≤ length row
-  long = rw (length-append (frame_of day tick) rest, frame-hundred day tick) (omega arith)
+  long = rw (length-append (frame_of day tick) rest, frame_hundred day tick) (omega arith)
 
-  all-fit : all_fit row ≡ true
+  all_fit_lem : all_fit row ≡ true
   unfolding all_fit
-  all-fit = all_of 100 (λ (j : ℕ). fits (at j) (get_or row j 0)) (λ j l. ap (fits (at j)) (frame_at day tick rest j l) ∙ element-fits v (at j))
+  all_fit_lem = all_of 100 (λ (j : ℕ). fits (at j) (get_or row j 0)) (λ j l. ap (fits (at j)) (frame_at day tick rest j l) ∙ element_fits v (at j))
 
-  all-clear : spares_clear row ≡ true
+  all_clear : spares_clear row ≡ true
   unfolding spares_clear
-  all-clear = all_of 100 (λ (j : ℕ). clear (at j) (get_or row j 0)) (λ j l. ap (clear (at j)) (frame_at day tick rest j l) ∙ element-clear v (at j))
+  all_clear = all_of 100 (λ (j : ℕ). clear (at j) (get_or row j 0)) (λ j l. ap (clear (at j)) (frame_at day tick rest j l) ∙ element_clear v (at j))
 
   field_back : (f : Field) → field_in row f ≡ plain day tick f
-  field_back f = field-of row v (frame_at day tick rest) f (field-within day tick w f) ∙ sym (field_is day tick f)
+  field_back f = field_of_lem row v (frame_at day tick rest) f (field_within day tick w f) ∙ sym (field_is day tick f)
 
-  whole-writable : writable day (without_fraction tick) ≡ true
-  whole-writable = let d = writable-day day tick w in let t = writable-tick day tick w in in-ranges day (without_fraction tick) d.0 d.1 (omega arith)
+  whole_writable : writable day (without_fraction tick) ≡ true
+  whole_writable = let d = writable_day day tick w in let t = writable_tick day tick w in in_ranges day (without_fraction tick) d.0 d.1 (omega arith)
 
   -- its digits are those of the time without the fraction
-  digits-back : digits_in row ≡ time_digits day (without_fraction tick)
-  digits-back = digits-alike (field_in row) (plain day tick) field_back ∙ plain-digits day tick
+  digits_back : digits_in row ≡ time_digits day (without_fraction tick)
+  digits_back = digits_alike (field_in row) (plain day tick) field_back ∙ plain_digits day tick
 
-  seconds-back : field_in row Field.binary_seconds ≡ whole_seconds (without_fraction tick)
-  seconds-back = field_back Field.binary_seconds ∙ (let q : tick / 10000000 ≡ without_fraction tick / 10000000 = omega arith in q)
+  seconds_back : field_in row Field.binary_seconds ≡ whole_seconds (without_fraction tick)
+  seconds_back = field_back Field.binary_seconds ∙ (let q : tick / 10000000 ≡ without_fraction tick / 10000000 = omega arith in q)
 
   tick_is : tick_in (digits_in row) ≡ without_fraction tick
-  tick_is = ap tick_in digits-back ∙ tick-back day (without_fraction tick) whole-writable
+  tick_is = ap tick_in digits_back ∙ tick_back day (without_fraction tick) whole_writable
 
-  not-refused : read_refusal row ≡ 0
+  not_refused : read_refusal row ≡ 0
   unfolding read_refusal
-  not-refused =
+  not_refused =
       simp (
         le-ltb (length row) 100 long,
-        all-fit,
-        all-clear,
-        ap decimal digits-back ∙ digits_decimal day (without_fraction tick),
-        ap digits_in_range digits-back ∙ digits-in-range day (without_fraction tick) whole-writable,
-        eq-eqb (field_in row Field.binary_seconds) (whole_seconds (tick_in (digits_in row))) (seconds-back ∙ ap whole_seconds (sym tick_is)),
+        all_fit_lem,
+        all_clear,
+        ap decimal digits_back ∙ digits_decimal day (without_fraction tick),
+        ap digits_in_range digits_back ∙ digits_in_range_lem day (without_fraction tick) whole_writable,
+        eq-eqb (field_in row Field.binary_seconds) (whole_seconds (tick_in (digits_in row))) (seconds_back ∙ ap whole_seconds (sym tick_is)),
       )
 
   -- what is written reads as the day and the tick without its fraction
-  pub read-written : read_frame row ≡ time_read 0 day (without_fraction tick)
+  pub read_written : read_frame row ≡ time_read 0 day (without_fraction tick)
   unfolding read_frame
-  read-written =
-      ap (λ (k : ℕ). pick (eqb k 0) (time_read 0 (day_in (digits_in row)) (tick_in (digits_in row))) (time_read k 0 0)) not-refused
-      ∙ ap₂ (time_read 0) (ap day_in digits-back ∙ day-back day (without_fraction tick) whole-writable) tick_is
+  read_written =
+      ap (λ (k : ℕ). pick (eqb k 0) (time_read 0 (day_in (digits_in row)) (tick_in (digits_in row))) (time_read k 0 0)) not_refused
+      ∙ ap₂ (time_read 0) (ap day_in digits_back ∙ day_back day (without_fraction tick) whole_writable) tick_is
 
 -- READ, THEN WRITTEN
 
@@ -127,12 +127,12 @@ record Passed (row : List ℕ) : Type 0 where
 passed : (row : List ℕ) → read_refusal row ≡ 0 → Passed row
 unfolding read_refusal
 passed row n =
-    let a = quiet-first (ltb (length row) 100) _ ((given-zero (read_lines row) refl).0 n) in
-    let b = quiet-first (not (all_fit row)) _ a.1 in
-    let c = quiet-first (not (spares_clear row)) _ b.1 in
-    let d = quiet-first (not (decimal (digits_in row))) _ c.1 in
-    let e = quiet-first (not (digits_in_range (digits_in row))) _ d.1 in
-    let f = quiet-first (not (eqb (field_in row Field.binary_seconds) (whole_seconds (tick_in (digits_in row))))) _ e.1 in
+    let a = quiet_first (ltb (length row) 100) _ ((given_zero (read_lines row) refl).0 n) in
+    let b = quiet_first (not (all_fit row)) _ a.1 in
+    let c = quiet_first (not (spares_clear row)) _ b.1 in
+    let d = quiet_first (not (decimal (digits_in row))) _ c.1 in
+    let e = quiet_first (not (digits_in_range (digits_in row))) _ d.1 in
+    let f = quiet_first (not (eqb (field_in row Field.binary_seconds) (whole_seconds (tick_in (digits_in row))))) _ e.1 in
     record {
       long = ltb-false (length row) 100 a.0;
       fit = not-false (all_fit row) b.0;
@@ -167,64 +167,64 @@ module _ (row : List ℕ) (n : (read_frame row).number ≡ 0) where
   read_as_lem = ap (λ (k : ℕ). pick (eqb k 0) (time_read 0 day tick) (time_read k 0 0)) refusal
 
   again : time_digits day tick ≡ ds
-  again = digits-again ds (twenty row) was.decimals was.range
+  again = digits_again ds (twenty row) was.decimals was.range
 
   -- the fields of what is read are the frame's
-  plain-again : (f : Field) → plain day tick f ≡ field_in row f
+  plain_again : (f : Field) → plain day tick f ≡ field_in row f
   unfolding digits_of
-  plain-again Field.second_units = ap (λ (l : List ℕ). get_or l 11 0) (sym (time-digits day tick) ∙ again)
-  plain-again Field.second_tens = ap (λ (l : List ℕ). get_or l 10 0) (sym (time-digits day tick) ∙ again)
-  plain-again Field.minute_units = ap (λ (l : List ℕ). get_or l 9 0) (sym (time-digits day tick) ∙ again)
-  plain-again Field.minute_tens = ap (λ (l : List ℕ). get_or l 8 0) (sym (time-digits day tick) ∙ again)
-  plain-again Field.hour_units = ap (λ (l : List ℕ). get_or l 7 0) (sym (time-digits day tick) ∙ again)
-  plain-again Field.hour_tens = ap (λ (l : List ℕ). get_or l 6 0) (sym (time-digits day tick) ∙ again)
-  plain-again Field.day_units = ap (λ (l : List ℕ). get_or l 5 0) (sym (time-digits day tick) ∙ again)
-  plain-again Field.day_tens = ap (λ (l : List ℕ). get_or l 4 0) (sym (time-digits day tick) ∙ again)
-  plain-again Field.day_hundreds = ap (λ (l : List ℕ). get_or l 3 0) (sym (time-digits day tick) ∙ again)
-  plain-again Field.binary_seconds = sym was.seconds
+  plain_again Field.second_units = ap (λ (l : List ℕ). get_or l 11 0) (sym (time_digits_lem day tick) ∙ again)
+  plain_again Field.second_tens = ap (λ (l : List ℕ). get_or l 10 0) (sym (time_digits_lem day tick) ∙ again)
+  plain_again Field.minute_units = ap (λ (l : List ℕ). get_or l 9 0) (sym (time_digits_lem day tick) ∙ again)
+  plain_again Field.minute_tens = ap (λ (l : List ℕ). get_or l 8 0) (sym (time_digits_lem day tick) ∙ again)
+  plain_again Field.hour_units = ap (λ (l : List ℕ). get_or l 7 0) (sym (time_digits_lem day tick) ∙ again)
+  plain_again Field.hour_tens = ap (λ (l : List ℕ). get_or l 6 0) (sym (time_digits_lem day tick) ∙ again)
+  plain_again Field.day_units = ap (λ (l : List ℕ). get_or l 5 0) (sym (time_digits_lem day tick) ∙ again)
+  plain_again Field.day_tens = ap (λ (l : List ℕ). get_or l 4 0) (sym (time_digits_lem day tick) ∙ again)
+  plain_again Field.day_hundreds = ap (λ (l : List ℕ). get_or l 3 0) (sym (time_digits_lem day tick) ∙ again)
+  plain_again Field.binary_seconds = sym was.seconds
 
-  field-again : (f : Field) → field_of day tick f ≡ field_in row f
-  field-again f = sym (field_is day tick f) ∙ plain-again f
+  field_again : (f : Field) → field_of day tick f ≡ field_in row f
+  field_again f = sym (field_is day tick f) ∙ plain_again f
 
-  marker-again : (j : ℕ) → j < 100 → at j ≡ Element.marker → element_of (field_of day tick) (at j) ≡ get_or row j 0
+  marker_again : (j : ℕ) → j < 100 → at j ≡ Element.marker → element_of (field_of day tick) (at j) ≡ get_or row j 0
   unfolding fits element_of
-  marker-again j l a = ap (element_of (field_of day tick)) a ∙ sym (eqb-true (get_or row j 0) 2 (ap (λ (t : Element). fits t (get_or row j 0)) (sym a) ∙ fit_at row was.fit j l))
+  marker_again j l a = ap (element_of (field_of day tick)) a ∙ sym (eqb-true (get_or row j 0) 2 (ap (λ (t : Element). fits t (get_or row j 0)) (sym a) ∙ fit_at row was.fit j l))
 
-  spare-again : (j : ℕ) → j < 100 → at j ≡ Element.spare → element_of (field_of day tick) (at j) ≡ get_or row j 0
+  spare_again : (j : ℕ) → j < 100 → at j ≡ Element.spare → element_of (field_of day tick) (at j) ≡ get_or row j 0
   unfolding clear element_of spares_clear
-  spare-again j l a =
+  spare_again j l a =
       ap (element_of (field_of day tick)) a
-      ∙ sym (eqb-true (get_or row j 0) 0 (ap (λ (t : Element). clear t (get_or row j 0)) (sym a) ∙ all-at 100 (λ (k : ℕ). clear (at k) (get_or row k 0)) was.spares j l))
+      ∙ sym (eqb-true (get_or row j 0) 0 (ap (λ (t : Element). clear t (get_or row j 0)) (sym a) ∙ all_at 100 (λ (k : ℕ). clear (at k) (get_or row k 0)) was.spares j l))
 
-  bit-again : (j : ℕ) → j < 100 → (f : Field) (i : ℕ) → at j ≡ Element.bit f i → element_of (field_of day tick) (at j) ≡ get_or row j 0
+  bit_again : (j : ℕ) → j < 100 → (f : Field) (i : ℕ) → at j ≡ Element.bit f i → element_of (field_of day tick) (at j) ≡ get_or row j 0
   unfolding element_of
-  bit-again j l f i a = ap (element_of (field_of day tick)) a ∙ ap (digit_of 2 i) (field-again f) ∙ bit-back row was.fit j l f i a
+  bit_again j l f i a = ap (element_of (field_of day tick)) a ∙ ap (digit_of 2 i) (field_again f) ∙ bit_back row was.fit j l f i a
 
-  element-again : (j : ℕ) → j < 100 → element_of (field_of day tick) (at j) ≡ get_or row j 0
-  element-again j l = go (at j) refl
+  element_again : (j : ℕ) → j < 100 → element_of (field_of day tick) (at j) ≡ get_or row j 0
+  element_again j l = go (at j) refl
     where
       go : (t : Element) → at j ≡ t → element_of (field_of day tick) (at j) ≡ get_or row j 0
-      go Element.marker a = marker-again j l a
-      go Element.spare a = spare-again j l a
-      go (Element.bit f i) a = bit-again j l f i a
+      go Element.marker a = marker_again j l a
+      go Element.spare a = spare_again j l a
+      go (Element.bit f i) a = bit_again j l f i a
 
   frame_is : frame_of day tick ≡ take 100 row
   unfolding frame_of
   frame_is =
-      ext_get_or 0 (map (element_of (field_of day tick)) table) (take 100 row) (hundred-of (element_of (field_of day tick)) ∙ sym (length-take-le 100 row was.long))
-      (λ j l. let k : j < 100 = rw (hundred-of (element_of (field_of day tick))) at l in at_place (element_of (field_of day tick)) j k ∙ element-again j k ∙ sym (get_or-take 100 row j 0 k))
+      ext_get_or 0 (map (element_of (field_of day tick)) table) (take 100 row) (hundred_of (element_of (field_of day tick)) ∙ sym (length-take-le 100 row was.long))
+      (λ j l. let k : j < 100 = rw (hundred_of (element_of (field_of day tick))) at l in at_place (element_of (field_of day tick)) j k ∙ element_again j k ∙ sym (get_or-take 100 row j 0 k))
 
   -- a row that reads begins with the frame of what it reads as
   pub written_read : frame_of (read_frame row).day (read_frame row).tick.ticks ≡ take 100 row
   written_read = ap (λ (r : TimeRead). frame_of r.day r.tick.ticks) read_as_lem ∙ frame_is
 
   -- it has a hundred places
-  pub read-long : 100 ≤ length row
-  read-long = was.long
+  pub read_long : 100 ≤ length row
+  read_long = was.long
 
   -- what it reads as is within the ranges of time words, and has no fraction
-  pub read-writable : writable (read_frame row).day (read_frame row).tick.ticks ≡ true
-  read-writable = ap (λ (r : TimeRead). writable r.day r.tick.ticks) read_as_lem ∙ again-writable ds (twenty row) was.decimals was.range
+  pub read_writable : writable (read_frame row).day (read_frame row).tick.ticks ≡ true
+  read_writable = ap (λ (r : TimeRead). writable r.day r.tick.ticks) read_as_lem ∙ again_writable ds (twenty row) was.decimals was.range
 
   pub read_whole : (read_frame row).tick.ticks ≡ without_fraction (read_frame row).tick.ticks
   read_whole = ap (λ (r : TimeRead). r.tick.ticks) read_as_lem ∙ no_fraction row ∙ ap (λ (r : TimeRead). without_fraction r.tick.ticks) (sym read_as_lem)
@@ -232,18 +232,18 @@ module _ (row : List ℕ) (n : (read_frame row).number ≡ 0) where
 -- NO SECOND SPELLING
 
 -- two rows that read as the same time begin with the same hundred elements
-pub one-spelling : (a b : List ℕ) → (read_frame a).number ≡ 0 → (read_frame b).number ≡ 0 → read_frame a ≡ read_frame b → take 100 a ≡ take 100 b
-one-spelling a b n m e =
+pub one_spelling : (a b : List ℕ) → (read_frame a).number ≡ 0 → (read_frame b).number ≡ 0 → read_frame a ≡ read_frame b → take 100 a ≡ take 100 b
+one_spelling a b n m e =
     sym (written_read a n) ∙ ap (λ (r : TimeRead). frame_of r.day r.tick.ticks) e ∙ written_read b m
 
 -- the fraction is not written
-frame-whole : (day tick : ℕ) → writable day tick ≡ true → frame_of day tick ≡ frame_of day (without_fraction tick)
-frame-whole day tick w =
-    let r = read-written day tick w [] in
+frame_whole : (day tick : ℕ) → writable day tick ≡ true → frame_of day tick ≡ frame_of day (without_fraction tick)
+frame_whole day tick w =
+    let r = read_written day tick w [] in
     sym
     (ap (λ (t : TimeRead). frame_of t.day t.tick.ticks) (sym r)
     ∙ written_read (frame_of day tick ++ []) (ap (λ (t : TimeRead). t.number) r)
-    ∙ take_at (frame_of day tick) [] 100 (frame-hundred day tick))
+    ∙ take_at (frame_of day tick) [] 100 (frame_hundred day tick))
 
 -- THE CALLS
 
@@ -264,11 +264,11 @@ module _ (c : Card) (row : List ℕ) where
 
   -- what is written for a lawful card reads as its day, and its tick without the fraction
   pub read_back : lawful c ≡ true → 100 ≤ length row → read_frame (row_written c row) ≡ time_read 0 card_day (without_fraction card_tick)
-  read_back h l = ap read_frame (row_is h l) ∙ read-written card_day card_tick (time-writable c h) (drop 100 row)
+  read_back h l = ap read_frame (row_is h l) ∙ read_written card_day card_tick (time_writable c h) (drop 100 row)
 
   -- a row that reads is as it was when a frame is written into it for a card of that day and second
-  pub write-back : lawful c ≡ true → (read_frame row).number ≡ 0 → card_day ≡ (read_frame row).day → without_fraction card_tick ≡ (read_frame row).tick.ticks → row_written c row ≡ row
-  write-back h n d t =
+  pub write_back : lawful c ≡ true → (read_frame row).number ≡ 0 → card_day ≡ (read_frame row).day → without_fraction card_tick ≡ (read_frame row).tick.ticks → row_written c row ≡ row
+  write_back h n d t =
       row_is h (was row n).long
-      ∙ ap (λ (f : List ℕ). f ++ drop 100 row) (frame-whole card_day card_tick (time-writable c h) ∙ ap₂ frame_of d t ∙ written_read row n)
+      ∙ ap (λ (f : List ℕ). f ++ drop 100 row) (frame_whole card_day card_tick (time_writable c h) ∙ ap₂ frame_of d t ∙ written_read row n)
       ∙ take-append-drop 100 row

@@ -10,7 +10,7 @@ use native.Mathlib.Omega.{arith}
 use lib.Dec.{eqb}
 use lib.ListN.{length, take, drop, set, length-drop}
 use borrow.Author.Tests.{lt-ltb}
-use Rattle.wire.proofs.digits.Laws.{lt-or-le}
+use Rattle.wire.proofs.digits.Laws.{lt_or_le}
 use Rattle.card.specs.declared.card.Card.{Card}
 use Rattle.card.specs.declared.card.Answer.{Answer}
 use Rattle.card.specs.declared.blocks.BlockAnswer.{BlockAnswer}
@@ -19,67 +19,67 @@ use Rattle.card.specs.Cards.{with_queue}
 use Rattle.card.specs.Lawful.{lawful}
 use Rattle.card.specs.Registers.{write_register}
 use Rattle.parts.specs.Queues.{enqueued}
-use Rattle.card.proofs.blocks.Laws.{filled, joins-lawful, free-places, block-18, block-is, block-number, block-accepts}
-use Rattle.card.proofs.registers.Laws.{queue-within, fifo-18, fifo-3, fifo-joins}
+use Rattle.card.proofs.blocks.Laws.{filled, joins_lawful, free_places, block_18, block_is, block_number, block_accepts}
+use Rattle.card.proofs.registers.Laws.{queue_within, fifo_18, fifo_3, fifo_joins}
 use Rattle.laws.specs.Calls.{Call, after, fed}
 use Rattle.laws.proofs.Keeps.{keeps}
 
 -- ---- the bytes one by one, refused ones included
 
 -- of a lawful card, with k free places
-fed-filled : (row : List ℕ) (c : Card) (k : ℕ) → lawful c ≡ true → c.queue.fill + k ≡ 64 → fed c row ≡ with_queue c (filled c.queue (take k row))
-fed-filled [] c zero l h = refl
-fed-filled [] c (suc k) l h = refl
-fed-filled (b ∷ bs) c zero l h =
-    ap (λ (a : Answer). fed a.card bs) (sym (fifo-3 c b true (sym l) refl (omega arith))) ∙ fed-filled bs c zero l h
-fed-filled (b ∷ bs) c (suc k) l h =
-    ap (λ (a : Answer). fed a.card bs) (sym (fifo-joins c b true (sym l) refl (λ e. omega arith) (set c.queue.bytes c.queue.fill (b % 256)) refl))
-    ∙ fed-filled bs (with_queue c (enqueued c.queue (b % 256))) k (joins-lawful c (b % 256) l (omega arith)) (omega arith)
+fed_filled : (row : List ℕ) (c : Card) (k : ℕ) → lawful c ≡ true → c.queue.fill + k ≡ 64 → fed c row ≡ with_queue c (filled c.queue (take k row))
+fed_filled [] c zero l h = refl
+fed_filled [] c (suc k) l h = refl
+fed_filled (b ∷ bs) c zero l h =
+    ap (λ (a : Answer). fed a.card bs) (sym (fifo_3 c b true (sym l) refl (omega arith))) ∙ fed_filled bs c zero l h
+fed_filled (b ∷ bs) c (suc k) l h =
+    ap (λ (a : Answer). fed a.card bs) (sym (fifo_joins c b true (sym l) refl (λ e. omega arith) (set c.queue.bytes c.queue.fill (b % 256)) refl))
+    ∙ fed_filled bs (with_queue c (enqueued c.queue (b % 256))) k (joins_lawful c (b % 256) l (omega arith)) (omega arith)
 
-fed-unlawful : (row : List ℕ) (c : Card) → lawful c ≡ false → fed c row ≡ c
-fed-unlawful [] c l = refl
-fed-unlawful (b ∷ bs) c l = ap (λ (a : Answer). fed a.card bs) (sym (fifo-18 c b false (sym l) refl)) ∙ fed-unlawful bs c l
+fed_unlawful : (row : List ℕ) (c : Card) → lawful c ≡ false → fed c row ≡ c
+fed_unlawful [] c l = refl
+fed_unlawful (b ∷ bs) c l = ap (λ (a : Answer). fed a.card bs) (sym (fifo_18 c b false (sym l) refl)) ∙ fed_unlawful bs c l
 
-pub block-fed : (c : Card) (row : List ℕ) → (write_block c row).card ≡ fed c row
-block-fed c row = go (lawful c) refl
+pub block_fed : (c : Card) (row : List ℕ) → (write_block c row).card ≡ fed c row
+block_fed c row = go (lawful c) refl
   where
     go : (t : Bool) → lawful c ≡ t → (write_block c row).card ≡ fed c row
-    go true l = ap (λ (r : BlockAnswer). r.card) (block-is c row l) ∙ sym (fed-filled row c (free c.queue) l (free-places c.queue (queue-within c l)))
-    go false l = ap (λ (r : BlockAnswer). r.card) (sym (block-18 c row (lawful c) refl l)) ∙ sym (fed-unlawful row c l)
+    go true l = ap (λ (r : BlockAnswer). r.card) (block_is c row l) ∙ sym (fed_filled row c (free c.queue) l (free_places c.queue (queue_within c l)))
+    go false l = ap (λ (r : BlockAnswer). r.card) (sym (block_18 c row (lawful c) refl l)) ∙ sym (fed_unlawful row c l)
 
 -- bytes may be parted anywhere
-pub fed-append : (c : Card) (xs ys : List ℕ) → fed c (xs ++ ys) ≡ fed (fed c xs) ys
-fed-append c [] ys = refl
-fed-append c (x ∷ xs) ys = fed-append (write_register c 13 x).card xs ys
+pub fed_append : (c : Card) (xs ys : List ℕ) → fed c (xs ++ ys) ≡ fed (fed c xs) ys
+fed_append c [] ys = refl
+fed_append c (x ∷ xs) ys = fed_append (write_register c 13 x).card xs ys
 
 -- ---- what is taken, and what is left
 
-taken-finding : (c : Card) (row : List ℕ) → lawful c ≡ true → (write_block c row).taken ≡ finding c.queue row
-taken-finding c row l = ap (λ (r : BlockAnswer). r.taken) (block-is c row l)
+taken_finding : (c : Card) (row : List ℕ) → lawful c ≡ true → (write_block c row).taken ≡ finding c.queue row
+taken_finding c row l = ap (λ (r : BlockAnswer). r.taken) (block_is c row l)
 
-pub taken-within : (c : Card) (row : List ℕ) → (write_block c row).taken ≤ length row
-taken-within c row = go (lawful c) refl
+pub taken_within : (c : Card) (row : List ℕ) → (write_block c row).taken ≤ length row
+taken_within c row = go (lawful c) refl
   where
     go : (t : Bool) → lawful c ≡ t → (write_block c row).taken ≤ length row
-    go true l = rw (taken-finding c row l) (min-le_right (free c.queue) (length row))
-    go false l = rw (← block-18 c row (lawful c) refl l) (omega arith)
+    go true l = rw (taken_finding c row l) (min-le_right (free c.queue) (length row))
+    go false l = rw (← block_18 c row (lawful c) refl l) (omega arith)
 
-pub taken-and-left : (c : Card) (row : List ℕ) → (write_block c row).taken + length (drop (write_block c row).taken row) ≡ length row
-taken-and-left c row = omega (arith, length-drop (write_block c row).taken row, taken-within c row)
+pub taken_and_left : (c : Card) (row : List ℕ) → (write_block c row).taken + length (drop (write_block c row).taken row) ≡ length row
+taken_and_left c row = omega (arith, length-drop (write_block c row).taken row, taken_within c row)
 
 -- of a lawful card, 3 exactly if something is left
-pub three-exactly-if : (c : Card) (row : List ℕ) → lawful c ≡ true → (write_block c row).number ≡ 3 ↔ (write_block c row).taken < length row
-three-exactly-if c row l =
+pub three_exactly_if : (c : Card) (row : List ℕ) → lawful c ≡ true → (write_block c row).number ≡ 3 ↔ (write_block c row).taken < length row
+three_exactly_if c row l =
     ⊎_elim
     (λ (h : free c.queue < length row). (
-      λ e. rw (taken-finding c row l ∙ min-eq_left (le_of_lt h)) h,
-      λ e. block-number c row ∙ simp (l, lt-ltb (free c.queue) (length row) h),
+      λ e. rw (taken_finding c row l ∙ min-eq_left (le_of_lt h)) h,
+      λ e. block_number c row ∙ simp (l, lt-ltb (free c.queue) (length row) h),
     ))
     (λ (h : length row ≤ free c.queue). (
-      λ e. absurd (omega (arith, e, block-accepts c row l h)),
-      λ e. absurd (omega (arith, e, taken-finding c row l ∙ min-eq_right h)),
+      λ e. absurd (omega (arith, e, block_accepts c row l h)),
+      λ e. absurd (omega (arith, e, taken_finding c row l ∙ min-eq_right h)),
     ))
-    (lt-or-le (free c.queue) (length row))
+    (lt_or_le (free c.queue) (length row))
 
 -- ---- a row cut into two calls
 
@@ -107,15 +107,15 @@ unfolding write_block
 goes c row l = simp l
 
 -- the card is the same in every case
-pub cut-card : (c : Card) (first second : List ℕ) → (write_block c (first ++ second)).card ≡ (write_block (write_block c first).card second).card
-cut-card c first second =
-    block-fed c (first ++ second) ∙ fed-append c first second ∙ ap (λ (d : Card). fed d second) (sym (block-fed c first)) ∙ sym (block-fed (write_block c first).card second)
+pub cut_card : (c : Card) (first second : List ℕ) → (write_block c (first ++ second)).card ≡ (write_block (write_block c first).card second).card
+cut_card c first second =
+    block_fed c (first ++ second) ∙ fed_append c first second ∙ ap (λ (d : Card). fed d second) (sym (block_fed c first)) ∙ sym (block_fed (write_block c first).card second)
 
 -- and if the first took all of its part, so are number and count
-pub block-cut : (c : Card) (first second : List ℕ) → (write_block c first).taken ≡ length first
+pub block_cut : (c : Card) (first second : List ℕ) → (write_block c first).taken ≡ length first
     → write_block c (first ++ second) ≡ behind (length first) (write_block (write_block c first).card second)
 unfolding after
-block-cut c first second h = go (lawful c) refl
+block_cut c first second h = go (lawful c) refl
   where
     go : (t : Bool) → lawful c ≡ t → write_block c (first ++ second) ≡ behind (length first) (write_block (write_block c first).card second)
     go true l =
@@ -125,9 +125,9 @@ block-cut c first second h = go (lawful c) refl
         ∙ ap (λ (r : BlockAnswer). behind (length first) (one_by_one r.card second)) (sym f)
         ∙ ap (behind (length first)) (sym (goes (write_block c first).card second (keeps (Call.block first) c l)))
     go false l =
-        let f : write_block c first ≡ block_answer c 18 0 = sym (block-18 c first (lawful c) refl l) in
+        let f : write_block c first ≡ block_answer c 18 0 = sym (block_18 c first (lawful c) refl l) in
         let n : 0 ≡ length first + 0 = omega (arith, h, ap (λ (r : BlockAnswer). r.taken) f) in
-        sym (block-18 c (first ++ second) (lawful c) refl l)
+        sym (block_18 c (first ++ second) (lawful c) refl l)
         ∙ ap (block_answer c 18) n
-        ∙ ap (behind (length first)) (block-18 c second (lawful c) refl l)
+        ∙ ap (behind (length first)) (block_18 c second (lawful c) refl l)
         ∙ ap (λ (r : BlockAnswer). behind (length first) (write_block r.card second)) (sym f)

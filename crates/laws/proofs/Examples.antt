@@ -17,8 +17,8 @@ use Rattle.wire.specs.declared.packets.Packet.{Packet}
 use Rattle.parts.specs.Queues.{empty_queue}
 use Rattle.parts.specs.declared.settings.Settings.{Settings}
 use Rattle.parts.specs.Settings.{settings_lawful, jam_fits}
-use Rattle.parts.proofs.saved.RoundTrip.{load-saved}
-use Rattle.parts.proofs.settings.Laws.{settings-lawful}
+use Rattle.parts.proofs.saved.RoundTrip.{load_saved}
+use Rattle.parts.proofs.settings.Laws.{settings_lawful_lem}
 use Rattle.parts.specs.Saved.{saved_form, settings_bits}
 use Rattle.card.specs.declared.card.Card.{Card}
 use Rattle.card.specs.declared.card.Answer.{Answer}
@@ -32,16 +32,16 @@ use Rattle.card.proofs.saved.Calls.{saves, row_is, loads}
 use Rattle.laws.specs.Calls.{Call, after, after_all, fed}
 use Rattle.laws.specs.Each.{Each}
 use Rattle.laws.specs.Examples.{puts, offset_bytes, page_settings, page_calls, page, Wait, Example, Stated, waits}
-use Rattle.laws.proofs.Fed.{refused_by, set_by, fed-number, fed-packet}
-use Rattle.laws.proofs.Jam.{off-taken}
-use Rattle.laws.proofs.Keeps.{fresh-lawful, fresh-queue, fresh-all, keeps, keeps-all}
+use Rattle.laws.proofs.Fed.{refused_by, set_by, fed_number, fed_packet}
+use Rattle.laws.proofs.Jam.{off_taken}
+use Rattle.laws.proofs.Keeps.{fresh_lawful, fresh_queue, fresh_all, keeps, keeps_all}
 use Rattle.laws.proofs.Waits.{starred}
 
 -- ---- settings set by packets
 
-after-append : (ks js : List Call) (c : Card) → after_all (ks ++ js) c ≡ after_all js (after_all ks c)
-after-append [] js c = refl
-after-append (k ∷ ks) js c = after-append ks js (after k c)
+after_append : (ks js : List Call) (c : Card) → after_all (ks ++ js) c ≡ after_all js (after_all ks c)
+after_append [] js c = refl
+after_append (k ∷ ks) js c = after_append ks js (after k c)
 
 after_puts : (bs : List ℕ) (c : Card) → after_all (puts bs) c ≡ (write_register (fed c bs) 12 0x80).card
 unfolding after
@@ -51,7 +51,7 @@ after_puts (b ∷ bs) c = after_puts bs (write_register c 13 b).card
 -- a packet put in and taken, with the jam off
 takes : (p : Packet) (bs : List ℕ) (c : Card) → bytes_of p ≡ bs → lawful c ≡ true → c.queue ≡ empty_queue → fits p ≡ true → means p ≡ true → c.jam ≡ false → after_all (puts bs) c ≡ (set_by c p).card
 takes p bs c e l z f m j =
-    after_puts bs c ∙ ap (λ (a : List ℕ). (write_register (fed c a) 12 0x80).card) (sym e) ∙ ap (λ (a : Answer). a.card) (fed-packet p c l z f m)
+    after_puts bs c ∙ ap (λ (a : List ℕ). (write_register (fed c a) 12 0x80).card) (sym e) ∙ ap (λ (a : Answer). a.card) (fed_packet p c l z f m)
     ∙ ap (λ (t : Bool). (pick (t && needs_jam_off p) (refused_by c 25) (set_by c p)).card) j
 
 abbrev format_bytes : List ℕ
@@ -63,63 +63,63 @@ off_card = with_jam fresh_card false
 
 off_set : after (Call.switch_jam false) fresh_card ≡ off_card
 unfolding after
-off_set = ap (λ (a : Answer). a.card) (off-taken fresh_card fresh-lawful)
+off_set = ap (λ (a : Answer). a.card) (off_taken fresh_card fresh_lawful)
 
-off-lawful : lawful off_card ≡ true
-off-lawful = sym (ap lawful off_set) ∙ keeps (Call.switch_jam false) fresh_card fresh-lawful
+off_lawful : lawful off_card ≡ true
+off_lawful = sym (ap lawful off_set) ∙ keeps (Call.switch_jam false) fresh_card fresh_lawful
 
-format-set : after_all (puts format_bytes) off_card ≡ (set_by off_card (Packet.H Format.B Modulation.D)).card
+format_set : after_all (puts format_bytes) off_card ≡ (set_by off_card (Packet.H Format.B Modulation.D)).card
 unfolding framed data_of
-format-set = takes (Packet.H Format.B Modulation.D) format_bytes off_card refl off-lawful fresh-queue refl refl refl
+format_set = takes (Packet.H Format.B Modulation.D) format_bytes off_card refl off_lawful fresh_queue refl refl refl
 
-page-set : (after_all page_calls fresh_card).settings ≡ page_settings
+page_set : (after_all page_calls fresh_card).settings ≡ page_settings
 unfolding fresh_card framed data_of sign_of ascii digits
-page-set =
+page_set =
     let c : Card = (set_by off_card (Packet.H Format.B Modulation.D)).card in
-    let l : lawful c ≡ true = sym (ap lawful format-set) ∙ keeps-all (puts format_bytes) off_card off-lawful in
-    ap (λ (d : Card). d.settings) (ap (after_all (puts format_bytes ++ puts offset_bytes)) off_set ∙ after-append (puts format_bytes) (puts offset_bytes) off_card
-    ∙ ap (after_all (puts offset_bytes)) format-set ∙ takes (Packet.G (pos 25000)) offset_bytes c refl l refl refl refl refl)
+    let l : lawful c ≡ true = sym (ap lawful format_set) ∙ keeps_all (puts format_bytes) off_card off_lawful in
+    ap (λ (d : Card). d.settings) (ap (after_all (puts format_bytes ++ puts offset_bytes)) off_set ∙ after_append (puts format_bytes) (puts offset_bytes) off_card
+    ∙ ap (after_all (puts offset_bytes)) format_set ∙ takes (Packet.G (pos 25000)) offset_bytes c refl l refl refl refl refl)
 
-page-form : saved_form page_settings ≡ 0x06 ∷ 0x00 ∷ 0x18 ∷ 0x6A ∷ 0x00 ∷ []
+page_form : saved_form page_settings ≡ 0x06 ∷ 0x00 ∷ 0x18 ∷ 0x6A ∷ 0x00 ∷ []
 unfolding saved_form settings_bits digits num packed
-page-form = refl
+page_form = refl
 
-page-lawful : settings_lawful page_settings ≡ true
-page-lawful = settings-lawful page_settings (record { mode = refl; meant = refl; pair = refl; offset = refl })
+page_lawful : settings_lawful page_settings ≡ true
+page_lawful = settings_lawful_lem page_settings (record { mode = refl; meant = refl; pair = refl; offset = refl })
 
 -- the five bytes, loaded
-page-loaded : (c : Card) → lawful c ≡ true
+page_loaded : (c : Card) → lawful c ≡ true
     → load c (0x06 ∷ 0x00 ∷ 0x18 ∷ 0x6A ∷ 0x00 ∷ []) ≡ pick (jam_fits c.jam page_settings) (answer (with_settings c page_settings) 0) (answer c 25)
-page-loaded c l =
-    let w = load-saved page_settings page-lawful in
-    ap (load c) (sym page-form) ∙ loads c (saved_form page_settings) l w.0
+page_loaded c l =
+    let w = load_saved page_settings page_lawful in
+    ap (load c) (sym page_form) ∙ loads c (saved_form page_settings) l w.0
     ∙ ap (λ (s : Settings). pick (jam_fits c.jam s) (answer (with_settings c s) 0) (answer c 25)) w.1
 
-page-saved : Stated (Example.saved page_settings page_calls (0x06 ∷ 0x00 ∷ 0x18 ∷ 0x6A ∷ 0x00 ∷ []))
-page-saved = (
-  fresh-all page_calls,
-  page-set,
-  λ c l e row h. (saves c (length row) l h, row_is c row (saves c (length row) l h) ∙ ap (λ (bs : List ℕ). bs ++ drop 5 row) (ap saved_form e ∙ page-form)),
-  page-loaded,
+page_saved : Stated (Example.saved page_settings page_calls (0x06 ∷ 0x00 ∷ 0x18 ∷ 0x6A ∷ 0x00 ∷ []))
+page_saved = (
+  fresh_all page_calls,
+  page_set,
+  λ c l e row h. (saves c (length row) l h, row_is c row (saves c (length row) l h) ∙ ap (λ (bs : List ℕ). bs ++ drop 5 row) (ap saved_form e ∙ page_form)),
+  page_loaded,
 )
 
 -- ---- the packet of +25,000, through ACK
 
-page-acknowledged : (jam : Bool) → ack_refusal jam offset_bytes ≡ pick jam 25 0
+page_acknowledged : (jam : Bool) → ack_refusal jam offset_bytes ≡ pick jam 25 0
 unfolding ack_refusal frame_lines body_lines has place_of body_of kinds_of of_kinds meaning offset_of ascii_values num
-page-acknowledged true = refl
-page-acknowledged false = refl
+page_acknowledged true = refl
+page_acknowledged false = refl
 
-page-taken : Stated (Example.taken offset_bytes 25 0)
+page_taken : Stated (Example.taken offset_bytes 25 0)
 unfolding below
-page-taken c l z = fed-number offset_bytes c l z (leb-true 11 64 refl) refl ∙ page-acknowledged c.jam
+page_taken c l z = fed_number offset_bytes c l z (leb-true 11 64 refl) refl ∙ page_acknowledged c.jam
 
 -- ---- all of them
 
-all-waits : (ls : List Wait) → Each (λ (l : Wait). Stated (Example.wait l)) ls → Each Stated (map Example.wait ls)
-all-waits [] h = tt
-all-waits (l ∷ ls) h = (h.0, all-waits ls h.1)
+all_waits : (ls : List Wait) → Each (λ (l : Wait). Stated (Example.wait l)) ls → Each Stated (map Example.wait ls)
+all_waits [] h = tt
+all_waits (l ∷ ls) h = (h.0, all_waits ls h.1)
 
-pub page-holds : Each Stated page
+pub page_holds : Each Stated page
 unfolding words_of writable words_or_zero write_words time_digits read_words read_digits digits_refusal decimal field in_range hour_of minute_of second_of fraction_of tick_at digits num below packed unpacked read_packet packet_refusal frame_lines body_lines has place_of body_of kinds_of of_kinds meaning offset_of ascii_values format_of modulation_of
-page-holds = ((refl, refl, refl), (refl, (refl, (refl, (page-taken, (refl, (refl, (refl, (refl, (page-saved, all-waits waits starred))))))))))
+page_holds = ((refl, refl, refl), (refl, (refl, (refl, (page_taken, (refl, (refl, (refl, (refl, (page_saved, all_waits waits starred))))))))))

@@ -11,7 +11,7 @@ use borrow.Author.Tests.{eqb-true}
 use Rattle.wire.specs.Digits.{pick}
 use Rattle.wire.specs.Numbers.{Line, ◌if◌, given, quiet, absent}
 use Rattle.wire.proofs.digits.Laws.{picked, zero_or}
-use Rattle.wire.proofs.numbers.Laws.{given-exactly, given-zero, given-append}
+use Rattle.wire.proofs.numbers.Laws.{given_exactly, given_zero, given_append}
 use Rattle.parts.specs.Interrupts.{line_up}
 use Rattle.parts.specs.Pending.{bit}
 use Rattle.parts.specs.Queues.{queued}
@@ -32,8 +32,8 @@ use Rattle.card.specs.Reset
 use Rattle.card.specs.Saved
 use Rattle.card.specs.Saved.{save_refusal}
 use Rattle.irig.specs.Writing
-use Rattle.card.proofs.blocks.Laws.{block-number}
-use Rattle.card.proofs.Ack.{ack-numbered}
+use Rattle.card.proofs.blocks.Laws.{block_number}
+use Rattle.card.proofs.Ack.{ack_numbered}
 use Rattle.laws.specs.Calls.{Call, number}
 use Rattle.laws.specs.Refusals.{lines}
 use Rattle.laws.proofs.Outcomes.{by}
@@ -45,80 +45,80 @@ module _ (c : Card) (reg v : ℕ) where
   packet = pick (eqb reg 12 && bit 128 v) (ack_lines c.jam (queued c.queue)) []
 
   -- no packet is read by another register
-  no-packet : eqb reg 12 ≡ false → 0 ≡ given packet
-  no-packet e = simp e
+  no_packet : eqb reg 12 ≡ false → 0 ≡ given packet
+  no_packet e = simp e
 
   at_other : (k : ℕ) → eqb k 12 ≡ false → eqb reg k ≡ true → 0 ≡ given packet
-  at_other k d e = no-packet (ap (λ (r : ℕ). eqb r 12) (eqb-true reg k e) ∙ d)
+  at_other k d e = no_packet (ap (λ (r : ℕ). eqb r 12) (eqb-true reg k e) ∙ d)
 
-  at-ack : eqb reg 12 ≡ true → (acknowledged c v).number ≡ given packet
+  at_ack : eqb reg 12 ≡ true → (acknowledged c v).number ≡ given packet
   unfolding acknowledged ack_refusal
-  at-ack e = simp e (picked (λ (a : Answer). a.number) (bit 128 v) _ _ ∙ go (bit 128 v))
+  at_ack e = simp e (picked (λ (a : Answer). a.number) (bit 128 v) _ _ ∙ go (bit 128 v))
     where
       go : (t : Bool) → pick t (given (ack_lines c.jam (queued c.queue))) 0 ≡ given (pick t (ack_lines c.jam (queued c.queue)) [])
       go true = refl
       go false = refl
 
-  written-number : (written c reg v).number ≡ given packet
+  written_number : (written c reg v).number ≡ given packet
   unfolding written
-  written-number =
+  written_number =
       by Gives (eqb reg 0) (at_other 0 refl)
       (λ e0. by Gives (eqb reg 11) (at_other 11 refl)
-      (λ e11. by Gives (eqb reg 12) at-ack
-      (λ e12. by Gives (eqb reg 13) (λ e. no-packet e12)
-      (λ e13. by Gives (eqb reg 18) (λ e. no-packet e12) (λ e. no-packet e12)))))
+      (λ e11. by Gives (eqb reg 12) at_ack
+      (λ e12. by Gives (eqb reg 13) (λ e. no_packet e12)
+      (λ e13. by Gives (eqb reg 18) (λ e. no_packet e12) (λ e. no_packet e12)))))
     where
       Gives : Answer → Type 0
       Gives a = a.number ≡ given packet
 
-  write-number : (write_register c reg v).number ≡ given (write_lines (lawful c) reg c.queue.fill ++ packet)
+  write_number : (write_register c reg v).number ≡ given (write_lines (lawful c) reg c.queue.fill ++ packet)
   unfolding write_register write_refusal
-  write-number =
+  write_number =
       picked (λ (a : Answer). a.number) (eqb (given (write_lines (lawful c) reg c.queue.fill)) 0) (written c reg v) (answer c (given (write_lines (lawful c) reg c.queue.fill)))
-      ∙ ap (λ (n : ℕ). pick (eqb (given (write_lines (lawful c) reg c.queue.fill)) 0) n (given (write_lines (lawful c) reg c.queue.fill))) written-number
-      ∙ sym (given-append (write_lines (lawful c) reg c.queue.fill) packet refl)
+      ∙ ap (λ (n : ℕ). pick (eqb (given (write_lines (lawful c) reg c.queue.fill)) 0) n (given (write_lines (lawful c) reg c.queue.fill))) written_number
+      ∙ sym (given_append (write_lines (lawful c) reg c.queue.fill) packet refl)
 
-read-gives : (c : Card) (reg : ℕ) → (read_register c reg).number ≡ read_refusal (lawful c) reg
+read_gives : (c : Card) (reg : ℕ) → (read_register c reg).number ≡ read_refusal (lawful c) reg
 unfolding read_register
-read-gives c reg = picked (λ (r : Value). r.number) (eqb (read_refusal (lawful c) reg) 0) _ _ ∙ zero_or (read_refusal (lawful c) reg) (eqb (read_refusal (lawful c) reg) 0) refl
+read_gives c reg = picked (λ (r : Value). r.number) (eqb (read_refusal (lawful c) reg) 0) _ _ ∙ zero_or (read_refusal (lawful c) reg) (eqb (read_refusal (lawful c) reg) 0) refl
 
-wait-gives : (c : Card) (n room : ℕ) → (Waiting.wait c n room).waited.number ≡ wait_refusal c n room
+wait_gives : (c : Card) (n room : ℕ) → (Waiting.wait c n room).waited.number ≡ wait_refusal c n room
 unfolding Waiting.wait
-wait-gives c n room = picked (λ (w : WaitedCard). w.waited.number) (eqb (wait_refusal c n room) 0) _ _ ∙ zero_or (wait_refusal c n room) (eqb (wait_refusal c n room) 0) refl
+wait_gives c n room = picked (λ (w : WaitedCard). w.waited.number) (eqb (wait_refusal c n room) 0) _ _ ∙ zero_or (wait_refusal c n room) (eqb (wait_refusal c n room) 0) refl
 
-line-table : (c : Card) (t : Bool) → lawful c ≡ t → (Registers.line c).number ≡ given (18 if not (lawful c) ∷ [])
+line_table : (c : Card) (t : Bool) → lawful c ≡ t → (Registers.line c).number ≡ given (18 if not (lawful c) ∷ [])
 unfolding Registers.line line_refusal
-line-table c true e = simp e (picked (λ (l : InterruptLine). l.number) (line_up c.interrupts) _ _ ∙ same (line_up c.interrupts))
+line_table c true e = simp e (picked (λ (l : InterruptLine). l.number) (line_up c.interrupts) _ _ ∙ same (line_up c.interrupts))
   where
     same : (t : Bool) → ◌≡◌ {A = ℕ} (pick t 0 0) 0
     same true = refl
     same false = refl
-line-table c false e = simp e
+line_table c false e = simp e
 
 -- ---- all calls
 
-pub number-given : (k : Call) (c : Card) → number k c ≡ given (lines k c)
+pub number_given : (k : Call) (c : Card) → number k c ≡ given (lines k c)
 unfolding number Setting.set_time Setting.set_strobe Setting.set_periodic Setting.switch_jam Registers.edge Reset.reset Saved.load save_refusal Writing.write_refusal granted read_refusal wait_refusal
-number-given (Call.set_time year day hour minute second) c = refl
-number-given (Call.read reg) c = read-gives c reg
-number-given (Call.write reg v) c = write-number c reg v
-number-given (Call.block row) c = block-number c row
-number-given (Call.edge falling) c = refl
-number-given Call.line c = line-table c (lawful c) refl
-number-given (Call.set_strobe s) c = refl
-number-given (Call.set_periodic d) c = refl
-number-given (Call.wait n row) c = wait-gives c n (length row)
-number-given Call.reset c = refl
-number-given (Call.save row) c = refl
-number-given (Call.load bytes) c = refl
-number-given (Call.write_frame row) c = refl
-number-given (Call.switch_jam on) c = refl
+number_given (Call.set_time year day hour minute second) c = refl
+number_given (Call.read reg) c = read_gives c reg
+number_given (Call.write reg v) c = write_number c reg v
+number_given (Call.block row) c = block_number c row
+number_given (Call.edge falling) c = refl
+number_given Call.line c = line_table c (lawful c) refl
+number_given (Call.set_strobe s) c = refl
+number_given (Call.set_periodic d) c = refl
+number_given (Call.wait n row) c = wait_gives c n (length row)
+number_given Call.reset c = refl
+number_given (Call.save row) c = refl
+number_given (Call.load bytes) c = refl
+number_given (Call.write_frame row) c = refl
+number_given (Call.switch_jam on) c = refl
 
 -- no line has the number 0
 numbered : (k : Call) (c : Card) → absent 0 (lines k c) ≡ true
 numbered (Call.set_time year day hour minute second) c = refl
 numbered (Call.read reg) c = refl
-numbered (Call.write reg v) c = by (λ (ls : List Line). absent 0 ls ≡ true) (eqb reg 12 && bit 128 v) (λ e. ack-numbered c.jam (queued c.queue)) (λ e. refl)
+numbered (Call.write reg v) c = by (λ (ls : List Line). absent 0 ls ≡ true) (eqb reg 12 && bit 128 v) (λ e. ack_numbered c.jam (queued c.queue)) (λ e. refl)
 numbered (Call.block row) c = refl
 numbered (Call.edge falling) c = refl
 numbered Call.line c = refl
@@ -132,12 +132,12 @@ numbered (Call.write_frame row) c = refl
 numbered (Call.switch_jam on) c = refl
 
 -- 0 is given exactly if no line holds
-pub done-exactly-if : (k : Call) (c : Card) → number k c ≡ 0 ↔ quiet (lines k c) ≡ true
-done-exactly-if k c =
-    let z = given-zero (lines k c) (numbered k c) in
-    (λ e. z.0 (sym (number-given k c) ∙ e), λ q. number-given k c ∙ z.1 q)
+pub done_exactly_if : (k : Call) (c : Card) → number k c ≡ 0 ↔ quiet (lines k c) ≡ true
+done_exactly_if k c =
+    let z = given_zero (lines k c) (numbered k c) in
+    (λ e. z.0 (sym (number_given k c) ∙ e), λ q. number_given k c ∙ z.1 q)
 
 -- and any other number exactly if its line holds and no line above it does, where no other line of the table has that number
-pub given-exactly-if : (k : Call) (c : Card) (n : ℕ) (above below : List Line) (t : Bool) → lines k c ≡ above ++ (n if t ∷ below)
+pub given_exactly_if : (k : Call) (c : Card) (n : ℕ) (above below : List Line) (t : Bool) → lines k c ≡ above ++ (n if t ∷ below)
     → eqb n 0 ≡ false → absent n above ≡ true → absent n below ≡ true → number k c ≡ n ↔ ((t ≡ true) × (quiet above ≡ true))
-given-exactly-if k c n above below t l z a b = rw (number-given k c ∙ ap given l) (given-exactly n above below t z a b)
+given_exactly_if k c n above below t l z a b = rw (number_given k c ∙ ap given l) (given_exactly n above below t z a b)

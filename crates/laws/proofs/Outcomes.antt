@@ -15,8 +15,8 @@ use borrow.Author.Tests.{eqb-true, eqb-false, ne_eqb, ltb-true, ltb-false, le-le
 use Rattle.wire.specs.Digits.{pick, unpacked}
 use Rattle.wire.specs.Numbers.{◌if◌, given}
 use Rattle.wire.specs.Packets.{packet_in}
-use Rattle.wire.proofs.numbers.Laws.{given-absent}
-use Rattle.wire.proofs.digits.Laws.{lt-or-le}
+use Rattle.wire.proofs.numbers.Laws.{given_absent}
+use Rattle.wire.proofs.digits.Laws.{lt_or_le}
 use Rattle.clock.specs.declared.setting.StrobeAt.{StrobeAt}
 use Rattle.clock.specs.declared.setting.Dividers.{Dividers}
 use Rattle.clock.specs.Clocks.{with_strobe, with_periodic}
@@ -48,43 +48,43 @@ use Rattle.card.specs.Saved
 use Rattle.parts.specs.Saved.{meaningful, settings_in}
 use Rattle.card.specs.Saved.{save_refusal}
 use Rattle.irig.specs.Writing
-use Rattle.card.proofs.blocks.Laws.{filled, block-18, block-is}
-use Rattle.card.proofs.Ack.{ack-numbers}
-use Rattle.card.proofs.registers.Laws.{queue-within}
+use Rattle.card.proofs.blocks.Laws.{filled, block_18, block_is}
+use Rattle.card.proofs.Ack.{ack_numbers}
+use Rattle.card.proofs.registers.Laws.{queue_within}
 use Rattle.laws.specs.Calls.{Call, after, number}
 use Rattle.laws.specs.Refusals.{Excepted}
 
 -- what an accepted call does to a lawful card
 pub data Effect (c : Card) : Call → Card → Type 0 where
-  sets-time : (year day hour minute second : ℕ) → date_fits year day hour minute second ≡ true
+  sets_time : (year day hour minute second : ℕ) → date_fits year day hour minute second ≡ true
       → Effect c (Call.set_time year day hour minute second) (with_clock c (time_set c.clock year day hour minute second))
-  reads-time : Effect c (Call.read 0) (with_time_latch c (words_now c))
+  reads_time : Effect c (Call.read 0) (with_time_latch c (words_now c))
   reads_other : (reg : ℕ) → eqb reg 0 ≡ false → Effect c (Call.read reg) c
-  requests-time : (v : ℕ) → Effect c (Call.write 0 v) (with_time_latch c (words_now c))
-  writes-control : (v : ℕ) → Effect c (Call.write 11 v) (with_event c (control_written c.event v))
-  clears-done : (v : ℕ) → bit 128 v ≡ false → Effect c (Call.write 12 v) (done_cleared v c)
-  takes-packet : (v : ℕ) → bit 128 v ≡ true → ack_number c ≡ 0
+  requests_time : (v : ℕ) → Effect c (Call.write 0 v) (with_time_latch c (words_now c))
+  writes_control : (v : ℕ) → Effect c (Call.write 11 v) (with_event c (control_written c.event v))
+  clears_done : (v : ℕ) → bit 128 v ≡ false → Effect c (Call.write 12 v) (done_cleared v c)
+  takes_packet : (v : ℕ) → bit 128 v ≡ true → ack_number c ≡ 0
       → Effect c (Call.write 12 v) (with_done (with_settings (with_queue c empty_queue) (applied (packet_in (queued c.queue)) c.settings)) true)
-  joins-queue : (v : ℕ) → c.queue.fill < 64 → Effect c (Call.write 13 v) (with_queue c (enqueued c.queue (v % 256)))
-  joins-block : (row : List ℕ) → length row ≤ free c.queue → Effect c (Call.block row) (with_queue c (filled c.queue row))
-  writes-mask : (v : ℕ) → Effect c (Call.write 14 v) (with_interrupts c (with_mask c.interrupts (v % 32)))
-  clears-pending : (v : ℕ) → Effect c (Call.write 15 v) (with_interrupts c (with_pending c.interrupts (cleared v c.interrupts.pending)))
-  writes-level : (v : ℕ) → Effect c (Call.write 16 v) (with_interrupts c (with_level c.interrupts (v % 8)))
-  writes-vector : (v : ℕ) → Effect c (Call.write 17 v) (with_interrupts c (with_vector c.interrupts (v % 256)))
-  opens-latch : (v : ℕ) → Effect c (Call.write 18 v) (with_event c (opened c.event))
-  matches-edge : (falling : Bool) → matching c.event.control falling ≡ true → Effect c (Call.edge falling) (matched c)
-  passes-edge : (falling : Bool) → matching c.event.control falling ≡ false → Effect c (Call.edge falling) c
-  tells-line : Effect c Call.line c
-  sets-strobe : (s : StrobeAt) → strobe_fits s ≡ true → Effect c (Call.set_strobe s) (with_clock c (with_strobe c.clock (strobe_kept s)))
-  sets-periodic : (d : Dividers) → dividers_fit d ≡ true → Effect c (Call.set_periodic d) (with_clock c (with_periodic c.clock (periodic_kept d)))
+  joins_queue : (v : ℕ) → c.queue.fill < 64 → Effect c (Call.write 13 v) (with_queue c (enqueued c.queue (v % 256)))
+  joins_block : (row : List ℕ) → length row ≤ free c.queue → Effect c (Call.block row) (with_queue c (filled c.queue row))
+  writes_mask : (v : ℕ) → Effect c (Call.write 14 v) (with_interrupts c (with_mask c.interrupts (v % 32)))
+  clears_pending : (v : ℕ) → Effect c (Call.write 15 v) (with_interrupts c (with_pending c.interrupts (cleared v c.interrupts.pending)))
+  writes_level : (v : ℕ) → Effect c (Call.write 16 v) (with_interrupts c (with_level c.interrupts (v % 8)))
+  writes_vector : (v : ℕ) → Effect c (Call.write 17 v) (with_interrupts c (with_vector c.interrupts (v % 256)))
+  opens_latch : (v : ℕ) → Effect c (Call.write 18 v) (with_event c (opened c.event))
+  matches_edge : (falling : Bool) → matching c.event.control falling ≡ true → Effect c (Call.edge falling) (matched c)
+  passes_edge : (falling : Bool) → matching c.event.control falling ≡ false → Effect c (Call.edge falling) c
+  tells_line : Effect c Call.line c
+  sets_strobe : (s : StrobeAt) → strobe_fits s ≡ true → Effect c (Call.set_strobe s) (with_clock c (with_strobe c.clock (strobe_kept s)))
+  sets_periodic : (d : Dividers) → dividers_fit d ≡ true → Effect c (Call.set_periodic d) (with_clock c (with_periodic c.clock (periodic_kept d)))
   waits : (n : ℕ) (row : List ℕ) → wait_refusal c n (length row) ≡ 0
       → Effect c (Call.wait n row) (card_after c (passed c.clock n (length row)) (fell (listed c.clock n (length row))))
   resets : Effect c Call.reset (reset_card c.clock.time c.settings)
   saves : (row : List ℕ) → Effect c (Call.save row) c
   loads : (bytes : List ℕ) → eqb (length bytes) 5 && meaningful (unpacked 2 8 bytes) ≡ true → jam_fits c.jam (settings_in (unpacked 2 8 bytes)) ≡ true
       → Effect c (Call.load bytes) (with_settings c (settings_in (unpacked 2 8 bytes)))
-  writes-frame : (row : List ℕ) → Effect c (Call.write_frame row) c
-  switches-jam : (on : Bool) → jam_fits on c.settings ≡ true → Effect c (Call.switch_jam on) (with_jam c on)
+  writes_frame : (row : List ℕ) → Effect c (Call.write_frame row) c
+  switches_jam : (on : Bool) → jam_fits on c.settings ≡ true → Effect c (Call.switch_jam on) (with_jam c on)
 
 -- how a call ends: the card afterwards and the number
 pub data Outcome (k : Call) (c : Card) : Card → ℕ → Type 0 where
@@ -114,17 +114,17 @@ module _ (k : Call) (c d : Card) where
   one_line n true z e h true l = accepted l (h refl)
   one_line n false z e h true l = by (λ (x : Card). Outcome k c x n) (eqb n 0) (λ q. absurd (clash (eqb n 0) q z)) (λ q. refused l z e)
 
-  two-lines : (n m : ℕ) (f g : Bool) → eqb n 0 ≡ false → eqb n 18 ≡ false → eqb m 0 ≡ false → eqb m 18 ≡ false → (f ≡ true → g ≡ true → Effect c k d) → (known : Bool) → lawful c ≡ known
+  two_lines : (n m : ℕ) (f g : Bool) → eqb n 0 ≡ false → eqb n 18 ≡ false → eqb m 0 ≡ false → eqb m 18 ≡ false → (f ≡ true → g ≡ true → Effect c k d) → (known : Bool) → lawful c ≡ known
       → Ends k c (granted (18 if not known ∷ n if not f ∷ m if not g ∷ []) c d)
   unfolding granted
-  two-lines n m f g z e y w h false l = unlawful l
-  two-lines n m true g z e y w h true l = one_line m g y w (h refl) true l
-  two-lines n m false g z e y w h true l = by (λ (x : Card). Outcome k c x n) (eqb n 0) (λ q. absurd (clash (eqb n 0) q z)) (λ q. refused l z e)
+  two_lines n m f g z e y w h false l = unlawful l
+  two_lines n m true g z e y w h true l = one_line m g y w (h refl) true l
+  two_lines n m false g z e y w h true l = by (λ (x : Card). Outcome k c x n) (eqb n 0) (λ q. absurd (clash (eqb n 0) q z)) (λ q. refused l z e)
 
-  only-18 : (lawful c ≡ true → Effect c k d) → (known : Bool) → lawful c ≡ known → Ends k c (granted (18 if not known ∷ []) c d)
+  only_18 : (lawful c ≡ true → Effect c k d) → (known : Bool) → lawful c ≡ known → Ends k c (granted (18 if not known ∷ []) c d)
   unfolding granted
-  only-18 h false l = unlawful l
-  only-18 h true l = accepted l (h l)
+  only_18 h false l = unlawful l
+  only_18 h true l = accepted l (h l)
 
 -- ---- registers
 
@@ -139,7 +139,7 @@ module _ (c : Card) (reg : ℕ) where
   shows : lawful c ≡ true → Outcome (Call.read reg) c (pick (eqb reg 0) (with_time_latch c (words_now c)) c) 0
   shows l =
       by (λ (d : Card). Outcome (Call.read reg) c d 0) (eqb reg 0)
-      (λ e. accepted l (subst (λ (r : ℕ). Effect c (Call.read r) (with_time_latch c (words_now c))) (sym (eqb-true reg 0 e)) reads-time))
+      (λ e. accepted l (subst (λ (r : ℕ). Effect c (Call.read r) (with_time_latch c (words_now c))) (sym (eqb-true reg 0 e)) reads_time))
       (λ e. accepted l (reads_other reg e))
 
   read_by : (known : Bool) → lawful c ≡ known → Reads (reading (read_refusal known reg))
@@ -154,18 +154,18 @@ module _ (c : Card) (v : ℕ) (l : lawful c ≡ true) where
   Takes a = Outcome (Call.write 12 v) c a.card a.number
 
   -- a packet of 4 to 10 or 25 is neither 0 nor 18
-  not-18 : (ack_number c ≡ 0 → ⊥) → eqb (ack_number c) 18 ≡ false
-  not-18 z = ne_eqb _ 18 (λ (e : ack_number c ≡ 18). ⊎_elim (λ q. omega (arith, q, e)) (λ q. omega (arith, q, e)) (ack-numbers c.jam (queued c.queue) z))
+  not_18 : (ack_number c ≡ 0 → ⊥) → eqb (ack_number c) 18 ≡ false
+  not_18 z = ne_eqb _ 18 (λ (e : ack_number c ≡ 18). ⊎_elim (λ q. omega (arith, q, e)) (λ q. omega (arith, q, e)) (ack_numbers c.jam (queued c.queue) z))
 
   take_by : bit 128 v ≡ true → (t : Bool) → eqb (ack_number c) 0 ≡ t
       → Takes (answer (with_done (with_settings (with_queue c empty_queue) (pick t (applied (packet_in (queued c.queue)) c.settings) c.settings)) t) (ack_number c))
   take_by b true e =
       let z = eqb-true (ack_number c) 0 e in
       subst (λ (n : ℕ). Outcome (Call.write 12 v) c (with_done (with_settings (with_queue c empty_queue) (applied (packet_in (queued c.queue)) c.settings)) true) n) (sym z)
-      (accepted l (takes-packet v b z))
+      (accepted l (takes_packet v b z))
   take_by b false e =
       let z = eqb-false (ack_number c) 0 e in
-      excepted l (Excepted.packet v l b z) e (not-18 z)
+      excepted l (Excepted.packet v l b z) e (not_18 z)
 
   acknowledges : Takes (acknowledged c v)
   unfolding acknowledged settings_taken
@@ -173,7 +173,7 @@ module _ (c : Card) (v : ℕ) (l : lawful c ≡ true) where
       by Takes (bit 128 v)
       (λ b. by (λ (d : Card). Takes (answer (taken d) (ack_number c))) (bit 1 v)
       (λ f. take_by b (eqb (ack_number c) 0) refl) (λ f. take_by b (eqb (ack_number c) 0) refl))
-      (λ b. accepted l (clears-done v b))
+      (λ b. accepted l (clears_done v b))
 
 module _ (c : Card) (reg v : ℕ) where
   abbrev Writes : Answer → Type 0
@@ -187,20 +187,20 @@ module _ (c : Card) (reg v : ℕ) where
   writes : lawful c ≡ true → ltb last_register reg ≡ false → (leb 1 reg && leb reg 10) ≡ false → (eqb reg 13 && eqb c.queue.fill 64) ≡ false → Writes (written c reg v)
   unfolding written interrupts_written
   writes l m w f =
-      by Writes (eqb reg 0) (λ e. at 0 e _ (accepted l (requests-time v)))
-      (λ e0. by Writes (eqb reg 11) (λ e. at 11 e _ (accepted l (writes-control v)))
+      by Writes (eqb reg 0) (λ e. at 0 e _ (accepted l (requests_time v)))
+      (λ e0. by Writes (eqb reg 11) (λ e. at 11 e _ (accepted l (writes_control v)))
       (λ e11. by Writes (eqb reg 12) (λ e. at 12 e _ (acknowledges c v l))
-      (λ e12. by Writes (eqb reg 13) (λ e. at 13 e _ (accepted l (joins-queue v (room e))))
-      (λ e13. by Writes (eqb reg 18) (λ e. at 18 e _ (accepted l (opens-latch v)))
-      (λ e18. by (λ (i : Interrupts). Writes (answer (with_interrupts c i) 0)) (eqb reg 14) (λ e. at 14 e _ (accepted l (writes-mask v)))
-      (λ e14. by (λ (i : Interrupts). Writes (answer (with_interrupts c i) 0)) (eqb reg 15) (λ e. at 15 e _ (accepted l (clears-pending v)))
-      (λ e15. by (λ (i : Interrupts). Writes (answer (with_interrupts c i) 0)) (eqb reg 16) (λ e. at 16 e _ (accepted l (writes-level v)))
-      (λ e16. by (λ (i : Interrupts). Writes (answer (with_interrupts c i) 0)) (eqb reg 17) (λ e. at 17 e _ (accepted l (writes-vector v)))
+      (λ e12. by Writes (eqb reg 13) (λ e. at 13 e _ (accepted l (joins_queue v (room e))))
+      (λ e13. by Writes (eqb reg 18) (λ e. at 18 e _ (accepted l (opens_latch v)))
+      (λ e18. by (λ (i : Interrupts). Writes (answer (with_interrupts c i) 0)) (eqb reg 14) (λ e. at 14 e _ (accepted l (writes_mask v)))
+      (λ e14. by (λ (i : Interrupts). Writes (answer (with_interrupts c i) 0)) (eqb reg 15) (λ e. at 15 e _ (accepted l (clears_pending v)))
+      (λ e15. by (λ (i : Interrupts). Writes (answer (with_interrupts c i) 0)) (eqb reg 16) (λ e. at 16 e _ (accepted l (writes_level v)))
+      (λ e16. by (λ (i : Interrupts). Writes (answer (with_interrupts c i) 0)) (eqb reg 17) (λ e. at 17 e _ (accepted l (writes_vector v)))
       (λ e17. absurd (eqb-false reg 17 e17 (last (eqb-false reg 0 e0)
       (eqb-false reg 11 e11) (eqb-false reg 12 e12) (eqb-false reg 13 e13) (eqb-false reg 14 e14) (eqb-false reg 15 e15) (eqb-false reg 16 e16) (eqb-false reg 18 e18))))))))))))
     where
       room : eqb reg 13 ≡ true → c.queue.fill < 64
-      room e = lt_of_le-ne (queue-within c l) (eqb-false c.queue.fill 64 (sym (ap (λ (t : Bool). t && eqb c.queue.fill 64) e) ∙ f))
+      room e = lt_of_le-ne (queue_within c l) (eqb-false c.queue.fill 64 (sym (ap (λ (t : Bool). t && eqb c.queue.fill 64) e) ∙ f))
 
       above : (reg ≡ 0 → ⊥) → reg ≤ 10 → ⊥
       above z h =
@@ -215,15 +215,15 @@ module _ (c : Card) (reg v : ℕ) where
       last a b d e g h i j =
           let w : reg < 18 = lt_of_le-ne (ltb-false 18 reg m) j in
           ⊎_elim (λ (u : 10 < reg). le_antisymm (omega arith) (next 16 (next 15 (next 14 (next 13 (next 12 (next 11 u b) d) e) g) h) i))
-          (λ (u : reg ≤ 10). absurd (above a u)) (lt-or-le 10 reg)
+          (λ (u : reg ≤ 10). absurd (above a u)) (lt_or_le 10 reg)
 
   abbrev writing : ℕ → Answer
   writing n = pick (eqb n 0) (written c reg v) (answer c n)
 
-  write-by : (known : Bool) → lawful c ≡ known → Writes (writing (write_refusal known reg c.queue.fill))
+  write_by : (known : Bool) → lawful c ≡ known → Writes (writing (write_refusal known reg c.queue.fill))
   unfolding write_refusal
-  write-by false l = unlawful l
-  write-by true l =
+  write_by false l = unlawful l
+  write_by true l =
       by (λ (n : ℕ). Writes (writing n)) (ltb last_register reg) (λ e. refused l refl refl)
       (λ m. by (λ (n : ℕ). Writes (writing n)) (leb 1 reg && leb reg 10) (λ e. refused l refl refl)
       (λ w. by (λ (n : ℕ). Writes (writing n)) (eqb reg 13 && eqb c.queue.fill 64) (λ e. refused l refl refl)
@@ -242,13 +242,13 @@ module _ (c : Card) (row : List ℕ) where
   few : length (take (free c.queue) row) ≤ free c.queue
   few = omega (arith, length-take (free c.queue) row, min-le_left (free c.queue) (length row))
 
-  found-is : lawful c ≡ true → found ≡ (write_block c (take (free c.queue) row)).card
-  found-is l =
+  found_is : lawful c ≡ true → found ≡ (write_block c (take (free c.queue) row)).card
+  found_is l =
       ap (λ (bs : List ℕ). with_queue c (filled c.queue bs)) (sym (take_all (free c.queue) (take (free c.queue) row) few))
-      ∙ sym (ap (λ (r : BlockAnswer). r.card) (block-is c (take (free c.queue) row) l))
+      ∙ sym (ap (λ (r : BlockAnswer). r.card) (block_is c (take (free c.queue) row) l))
 
-  pub found-effect : lawful c ≡ true → Effect c (Call.block (take (free c.queue) row)) (write_block c (take (free c.queue) row)).card
-  found-effect l = subst (Effect c (Call.block (take (free c.queue) row))) (found-is l) (joins-block (take (free c.queue) row) few)
+  pub found_effect : lawful c ≡ true → Effect c (Call.block (take (free c.queue) row)) (write_block c (take (free c.queue) row)).card
+  found_effect l = subst (Effect c (Call.block (take (free c.queue) row))) (found_is l) (joins_block (take (free c.queue) row) few)
 
   -- none finds one
   full : lawful c ≡ true → c.queue.fill ≡ 64 → found ≡ c
@@ -257,17 +257,17 @@ module _ (c : Card) (row : List ℕ) where
   left_over : lawful c ≡ true → free c.queue < length row → Blocked found 3
   left_over l h =
       ⊎_elim
-      (λ (r : c.queue.fill < 64). subst (λ (d : Card). Blocked d 3) (sym (found-is l)) (excepted l (Excepted.block row l r h) refl refl))
-      (λ (f : 64 ≤ c.queue.fill). subst (λ (d : Card). Blocked d 3) (sym (full l (le_antisymm (queue-within c l) f))) (refused l refl refl))
-      (lt-or-le c.queue.fill 64)
+      (λ (r : c.queue.fill < 64). subst (λ (d : Card). Blocked d 3) (sym (found_is l)) (excepted l (Excepted.block row l r h) refl refl))
+      (λ (f : 64 ≤ c.queue.fill). subst (λ (d : Card). Blocked d 3) (sym (full l (le_antisymm (queue_within c l) f))) (refused l refl refl))
+      (lt_or_le c.queue.fill 64)
 
   all_found : lawful c ≡ true → length row ≤ free c.queue → Blocked found 0
-  all_found l h = subst (λ (bs : List ℕ). Blocked (with_queue c (filled c.queue bs)) 0) (sym (take_all (free c.queue) row h)) (accepted l (joins-block row h))
+  all_found l h = subst (λ (bs : List ℕ). Blocked (with_queue c (filled c.queue bs)) 0) (sym (take_all (free c.queue) row h)) (accepted l (joins_block row h))
 
-  block-by : (known : Bool) → lawful c ≡ known → Blocked (write_block c row).card (write_block c row).number
-  block-by false l = subst (λ (r : BlockAnswer). Blocked r.card r.number) (block-18 c row (lawful c) refl l) (unlawful l)
-  block-by true l =
-      subst (λ (r : BlockAnswer). Blocked r.card r.number) (sym (block-is c row l))
+  block_by : (known : Bool) → lawful c ≡ known → Blocked (write_block c row).card (write_block c row).number
+  block_by false l = subst (λ (r : BlockAnswer). Blocked r.card r.number) (block_18 c row (lawful c) refl l) (unlawful l)
+  block_by true l =
+      subst (λ (r : BlockAnswer). Blocked r.card r.number) (sym (block_is c row l))
       (rw l
       (by (Blocked found) (ltb (free c.queue) (length row))
       (λ e. left_over l (ltb-true (free c.queue) (length row) e))
@@ -280,15 +280,15 @@ room_by : (k : Call) (c : Card) (room places : ℕ) → Effect c k c → (known 
 room_by k c room places o false l = unlawful l
 room_by k c room places o true l = by (λ (n : ℕ). Outcome k c c n) (ltb room places) (λ e. refused l refl refl) (λ e. accepted l o)
 
-line-by : (c : Card) (known up : Bool) → lawful c ≡ known
+line_by : (c : Card) (known up : Bool) → lawful c ≡ known
     → Outcome Call.line c c (pick (known && up) (interrupt_line 0 true c.interrupts.level c.interrupts.vector) (interrupt_line (given (18 if not known ∷ [])) false 0 0)).number
-line-by c false up l = unlawful l
-line-by c true true l = accepted l tells-line
-line-by c true false l = accepted l tells-line
+line_by c false up l = unlawful l
+line_by c true true l = accepted l tells_line
+line_by c true false l = accepted l tells_line
 
-wait-18 : (c : Card) (n room : ℕ) → lawful c ≡ true → eqb (wait_refusal c n room) 18 ≡ false
+wait_18 : (c : Card) (n room : ℕ) → lawful c ≡ true → eqb (wait_refusal c n room) 18 ≡ false
 unfolding wait_refusal
-wait-18 c n room l = rw l (ne_eqb (given (wait_lines c.clock n room)) 18 (given-absent 18 (wait_lines c.clock n room) refl refl))
+wait_18 c n room l = rw l (ne_eqb (given (wait_lines c.clock n room)) 18 (given_absent 18 (wait_lines c.clock n room) refl refl))
 
 wait_by : (c : Card) (n : ℕ) (row : List ℕ) (known : Bool) → lawful c ≡ known → (t : Bool) → eqb (wait_refusal c n (length row)) 0 ≡ t
     → Outcome (Call.wait n row) c (pick t (card_after c (passed c.clock n (length row)) (fell (listed c.clock n (length row)))) c) (pick t 0 (wait_refusal c n (length row)))
@@ -296,31 +296,31 @@ unfolding wait_refusal
 wait_by c n row false l true e = absurd (clash true refl (sym e ∙ simp l))
 wait_by c n row false l false e = rw l (unlawful l)
 wait_by c n row true l true e = accepted l (waits n row (eqb-true (wait_refusal c n (length row)) 0 e))
-wait_by c n row true l false e = refused l e (wait-18 c n (length row) l)
+wait_by c n row true l false e = refused l e (wait_18 c n (length row) l)
 
 -- ---- all calls
 
 pub outcome : (k : Call) (c : Card) → Outcome k c (after k c) (number k c)
 unfolding after number Setting.set_time Setting.set_strobe Setting.set_periodic Setting.switch_jam read_register write_register Registers.edge Registers.line line_refusal Waiting.wait Reset.reset Saved.load save_refusal Writing.write_refusal
 outcome (Call.set_time year day hour minute second) c =
-    one_line _ c _ 11 (date_fits year day hour minute second) refl refl (sets-time year day hour minute second) (lawful c) refl
+    one_line _ c _ 11 (date_fits year day hour minute second) refl refl (sets_time year day hour minute second) (lawful c) refl
 outcome (Call.read reg) c = read_by c reg (lawful c) refl
-outcome (Call.write reg v) c = write-by c reg v (lawful c) refl
-outcome (Call.block row) c = block-by c row (lawful c) refl
+outcome (Call.write reg v) c = write_by c reg v (lawful c) refl
+outcome (Call.block row) c = block_by c row (lawful c) refl
 outcome (Call.edge falling) c =
-    only-18 _ c _
-    (λ l. by (Effect c (Call.edge falling)) (matching c.event.control falling) (matches-edge falling) (passes-edge falling))
+    only_18 _ c _
+    (λ l. by (Effect c (Call.edge falling)) (matching c.event.control falling) (matches_edge falling) (passes_edge falling))
     (lawful c) refl
-outcome Call.line c = line-by c (lawful c) (line_up c.interrupts) refl
-outcome (Call.set_strobe s) c = one_line _ c _ 13 (strobe_fits s) refl refl (sets-strobe s) (lawful c) refl
-outcome (Call.set_periodic d) c = one_line _ c _ 12 (dividers_fit d) refl refl (sets-periodic d) (lawful c) refl
+outcome Call.line c = line_by c (lawful c) (line_up c.interrupts) refl
+outcome (Call.set_strobe s) c = one_line _ c _ 13 (strobe_fits s) refl refl (sets_strobe s) (lawful c) refl
+outcome (Call.set_periodic d) c = one_line _ c _ 12 (dividers_fit d) refl refl (sets_periodic d) (lawful c) refl
 outcome (Call.wait n row) c =
     by (λ (w : WaitedCard). Outcome (Call.wait n row) c w.card w.waited.number) (eqb (wait_refusal c n (length row)) 0)
     (λ e. wait_by c n row (lawful c) refl true e)
     (λ e. wait_by c n row (lawful c) refl false e)
-outcome Call.reset c = only-18 _ c _ (λ l. resets) (lawful c) refl
+outcome Call.reset c = only_18 _ c _ (λ l. resets) (lawful c) refl
 outcome (Call.save row) c = room_by _ c (length row) 5 (saves row) (lawful c) refl
 outcome (Call.load bytes) c =
-    two-lines _ c _ 19 25 (eqb (length bytes) 5 && meaningful (unpacked 2 8 bytes)) (jam_fits c.jam (settings_in (unpacked 2 8 bytes))) refl refl refl refl (loads bytes) (lawful c) refl
-outcome (Call.write_frame row) c = room_by _ c (length row) 100 (writes-frame row) (lawful c) refl
-outcome (Call.switch_jam on) c = one_line _ c _ 25 (jam_fits on c.settings) refl refl (switches-jam on) (lawful c) refl
+    two_lines _ c _ 19 25 (eqb (length bytes) 5 && meaningful (unpacked 2 8 bytes)) (jam_fits c.jam (settings_in (unpacked 2 8 bytes))) refl refl refl refl (loads bytes) (lawful c) refl
+outcome (Call.write_frame row) c = room_by _ c (length row) 100 (writes_frame row) (lawful c) refl
+outcome (Call.switch_jam on) c = one_line _ c _ 25 (jam_fits on c.settings) refl refl (switches_jam on) (lawful c) refl

@@ -9,13 +9,13 @@ use lib.ListN.{length, get_or}
 use Rattle.wire.specs.Digits.{pick}
 use Rattle.wire.specs.Packets.{packet_in}
 use Rattle.wire.specs.Words.{zero_words, time_read, read_words}
-use Rattle.wire.proofs.words.Laws.{five-of, words-five}
+use Rattle.wire.proofs.words.Laws.{five_of, words_five}
 use Rattle.parts.specs.Events.{control_written, opened, matching}
 use Rattle.parts.specs.Interrupts.{with_mask, with_level, with_vector}
 use Rattle.parts.specs.Pending.{bit}
 use Rattle.parts.specs.Queues.{empty_queue, queued}
 use Rattle.parts.specs.Settings.{applied}
-use Rattle.parts.proofs.interrupts.Laws.{writes-mask, writes-level, writes-vector}
+use Rattle.parts.proofs.interrupts.Laws.{writes_mask, writes_level, writes_vector}
 use Rattle.card.specs.declared.card.Card.{Card}
 use Rattle.card.specs.declared.card.Answer.{Answer}
 use Rattle.card.specs.Cards.{answer, with_time_latch, with_event, with_interrupts, with_done}
@@ -23,13 +23,13 @@ use Rattle.card.specs.Lawful.{lawful}
 use Rattle.card.specs.Packets.{ack_number, settings_taken, acknowledged}
 use Rattle.card.specs.Registers.{value, words_now, read_refusal, read_register, shown, write_refusal, write_register, written}
 use Rattle.card.specs.Reset.{reset_card}
-use Rattle.card.proofs.registers.Laws.{time-lawful, words-read}
+use Rattle.card.proofs.registers.Laws.{time_lawful_lem, words_read}
 use Rattle.laws.specs.Calls.{Call, after, number}
 use Rattle.laws.specs.Readings.{Keeps, five_read}
 use Rattle.laws.proofs.Keeps.{keeps}
-use Rattle.laws.proofs.Latches.{time-request, edge-captured, reset-answers}
+use Rattle.laws.proofs.Latches.{time_request, edge_captured, reset_answers}
 use Rattle.laws.proofs.Outcomes.{by}
-use Rattle.laws.proofs.Refused.{accepted-lawful}
+use Rattle.laws.proofs.Refused.{accepted_lawful}
 
 -- ---- reading a lawful card
 
@@ -48,87 +48,87 @@ module _ (c : Card) (v : ℕ) (l : lawful c ≡ true) where
       let m : lawful d ≡ true = sym (ap lawful k) ∙ keeps (Call.write reg v) c l in
       rw k (reads d reg m e z ∙ ap (value d 0) s)
 
-  pub control-written : write_register c 11 v ≡ answer (with_event c (control_written c.event v)) 0
+  pub control_written_lem : write_register c 11 v ≡ answer (with_event c (control_written c.event v)) 0
   unfolding write_register write_refusal written
-  control-written = simp l
+  control_written_lem = simp l
 
-  pub count-written : write_register c 18 v ≡ answer (with_event c (opened c.event)) 0
+  pub count_written : write_register c 18 v ≡ answer (with_event c (opened c.event)) 0
   unfolding write_register write_refusal written
-  count-written = simp l
+  count_written = simp l
 
-  mask-written : write_register c 14 v ≡ answer (with_interrupts c (with_mask c.interrupts (v % 32))) 0
+  mask_written : write_register c 14 v ≡ answer (with_interrupts c (with_mask c.interrupts (v % 32))) 0
   unfolding write_register write_refusal written
-  mask-written = simp (l, writes-mask c.interrupts v)
+  mask_written = simp (l, writes_mask c.interrupts v)
 
-  level-written : write_register c 16 v ≡ answer (with_interrupts c (with_level c.interrupts (v % 8))) 0
+  level_written : write_register c 16 v ≡ answer (with_interrupts c (with_level c.interrupts (v % 8))) 0
   unfolding write_register write_refusal written
-  level-written = simp (l, writes-level c.interrupts v)
+  level_written = simp (l, writes_level c.interrupts v)
 
-  vector-written : write_register c 17 v ≡ answer (with_interrupts c (with_vector c.interrupts (v % 256))) 0
+  vector_written : write_register c 17 v ≡ answer (with_interrupts c (with_vector c.interrupts (v % 256))) 0
   unfolding write_register write_refusal written
-  vector-written = simp (l, writes-vector c.interrupts v)
+  vector_written = simp (l, writes_vector c.interrupts v)
 
   kept : {reg m : ℕ} → Keeps reg m → read_register (after (Call.write reg v) c) reg ≡ value (after (Call.write reg v) c) 0 (v % m)
   unfolding read_refusal shown
-  kept Keeps.control = back _ 11 (v % 8) control-written refl refl refl
-  kept Keeps.mask = back _ 14 (v % 32) mask-written refl refl refl
-  kept Keeps.level = back _ 16 (v % 8) level-written refl refl refl
-  kept Keeps.vector = back _ 17 (v % 256) vector-written refl refl refl
+  kept Keeps.control = back _ 11 (v % 8) control_written_lem refl refl refl
+  kept Keeps.mask = back _ 14 (v % 32) mask_written refl refl refl
+  kept Keeps.level = back _ 16 (v % 8) level_written refl refl refl
+  kept Keeps.vector = back _ 17 (v % 256) vector_written refl refl refl
 
 -- what was written to a register that keeps it reads back, but for bits not named, and reading it changes nothing
-pub register-back : (c : Card) (reg m v : ℕ) → Keeps reg m → number (Call.write reg v) c ≡ 0
+pub register_back : (c : Card) (reg m v : ℕ) → Keeps reg m → number (Call.write reg v) c ≡ 0
     → read_register (after (Call.write reg v) c) reg ≡ value (after (Call.write reg v) c) 0 (v % m)
-register-back c reg m v k e = kept c v (accepted-lawful (Call.write reg v) c e) k
+register_back c reg m v k e = kept c v (accepted_lawful (Call.write reg v) c e) k
 
 -- ---- the count of missed edges
 
 -- register 18 reads as it, of every lawful card, and reading it changes nothing
-pub count-reads : (c : Card) → lawful c ≡ true → read_register c 18 ≡ value c 0 c.event.missed
+pub count_reads : (c : Card) → lawful c ≡ true → read_register c 18 ≡ value c 0 c.event.missed
 unfolding read_refusal shown
-count-reads c l = reads c 18 l refl refl
+count_reads c l = reads c 18 l refl refl
 
 -- ---- latched times
 
 -- five registers of a latch read as its words
 module _ (d : Card) (l : lawful d ≡ true) where
-  time-five : five_read d 1 ≡ get_or d.time_latch 0 0 ∷ get_or d.time_latch 1 0 ∷ get_or d.time_latch 2 0 ∷ get_or d.time_latch 3 0 ∷ get_or d.time_latch 4 0 ∷ []
+  time_five : five_read d 1 ≡ get_or d.time_latch 0 0 ∷ get_or d.time_latch 1 0 ∷ get_or d.time_latch 2 0 ∷ get_or d.time_latch 3 0 ∷ get_or d.time_latch 4 0 ∷ []
   unfolding read_register read_refusal shown
-  time-five = simp l
+  time_five = simp l
 
-  pub event-five : five_read d 6 ≡ get_or d.event.latch 0 0 ∷ get_or d.event.latch 1 0 ∷ get_or d.event.latch 2 0 ∷ get_or d.event.latch 3 0 ∷ get_or d.event.latch 4 0 ∷ []
+  pub event_five : five_read d 6 ≡ get_or d.event.latch 0 0 ∷ get_or d.event.latch 1 0 ∷ get_or d.event.latch 2 0 ∷ get_or d.event.latch 3 0 ∷ get_or d.event.latch 4 0 ∷ []
   unfolding read_register read_refusal shown
-  event-five = simp l
+  event_five = simp l
 
 -- the words of the card's time, wherever they are kept, are read as that time
-pub time-in : (c : Card) (ws : List ℕ) → lawful c ≡ true → ws ≡ words_now c
+pub time_in : (c : Card) (ws : List ℕ) → lawful c ≡ true → ws ≡ words_now c
     → read_words (get_or ws 0 0 ∷ get_or ws 1 0 ∷ get_or ws 2 0 ∷ get_or ws 3 0 ∷ get_or ws 4 0 ∷ []) ≡ time_read 0 c.clock.time.day c.clock.time.tick.ticks
-time-in c ws l e =
-    ap read_words (sym (five-of ws (ap length e ∙ words-five c.clock.time.day c.clock.time.tick.ticks)) ∙ e) ∙ words-read c.clock.time (time-lawful c l)
+time_in c ws l e =
+    ap read_words (sym (five_of ws (ap length e ∙ words_five c.clock.time.day c.clock.time.tick.ticks)) ∙ e) ∙ words_read c.clock.time (time_lawful_lem c l)
 
 -- TIME0 to TIME4 after a time request
-pub time-reads : (c : Card) → number (Call.read 0) c ≡ 0 → read_words (five_read (after (Call.read 0) c) 1) ≡ time_read 0 c.clock.time.day c.clock.time.tick.ticks
-time-reads c e =
-    let l = accepted-lawful (Call.read 0) c e in
+pub time_reads : (c : Card) → number (Call.read 0) c ≡ 0 → read_words (five_read (after (Call.read 0) c) 1) ≡ time_read 0 c.clock.time.day c.clock.time.tick.ticks
+time_reads c e =
+    let l = accepted_lawful (Call.read 0) c e in
     let d : Card = after (Call.read 0) c in
-    ap read_words (time-five d (keeps (Call.read 0) c l)) ∙ time-in c d.time_latch l (time-request c e)
+    ap read_words (time_five d (keeps (Call.read 0) c l)) ∙ time_in c d.time_latch l (time_request c e)
 
 -- EVENT0 to EVENT4 after a captured edge
-pub event-reads : (c : Card) (falling : Bool) → number (Call.edge falling) c ≡ 0 → matching c.event.control falling ≡ true → c.event.closed ≡ false
+pub event_reads : (c : Card) (falling : Bool) → number (Call.edge falling) c ≡ 0 → matching c.event.control falling ≡ true → c.event.closed ≡ false
     → read_words (five_read (after (Call.edge falling) c) 6) ≡ time_read 0 c.clock.time.day c.clock.time.tick.ticks
-event-reads c falling e t o =
-    let l = accepted-lawful (Call.edge falling) c e in
+event_reads c falling e t o =
+    let l = accepted_lawful (Call.edge falling) c e in
     let d : Card = after (Call.edge falling) c in
-    ap read_words (event-five d (keeps (Call.edge falling) c l)) ∙ time-in c d.event.latch l (edge-captured falling c e t o)
+    ap read_words (event_five d (keeps (Call.edge falling) c l)) ∙ time_in c d.event.latch l (edge_captured falling c e t o)
 
 -- ---- after a reset
 
-zeros-at : (i : ℕ) → get_or zero_words i 0 ≡ 0
-zeros-at zero = refl
-zeros-at (suc zero) = refl
-zeros-at (suc (suc zero)) = refl
-zeros-at (suc (suc (suc zero))) = refl
-zeros-at (suc (suc (suc (suc zero)))) = refl
-zeros-at (suc (suc (suc (suc (suc i))))) = refl
+zeros_at : (i : ℕ) → get_or zero_words i 0 ≡ 0
+zeros_at zero = refl
+zeros_at (suc zero) = refl
+zeros_at (suc (suc zero)) = refl
+zeros_at (suc (suc (suc zero))) = refl
+zeros_at (suc (suc (suc (suc zero)))) = refl
+zeros_at (suc (suc (suc (suc (suc i))))) = refl
 
 module _ (c : Card) (reg : ℕ) where
   abbrev d : Card
@@ -137,12 +137,12 @@ module _ (c : Card) (reg : ℕ) where
   Zero : ℕ → Type 0
   Zero n = n ≡ 0
 
-  shows-zero : shown d reg ≡ 0
+  shows_zero : shown d reg ≡ 0
   unfolding shown Zero
-  shows-zero =
+  shows_zero =
       by Zero (eqb reg 0) (λ e. refl)
-      (λ e. by Zero (leb reg 5) (λ e. zeros-at (reg - 1))
-      (λ e. by Zero (leb reg 10) (λ e. zeros-at (reg - 6))
+      (λ e. by Zero (leb reg 5) (λ e. zeros_at (reg - 1))
+      (λ e. by Zero (leb reg 10) (λ e. zeros_at (reg - 6))
       (λ e. by Zero (eqb reg 11) (λ e. refl)
       (λ e. by Zero (eqb reg 12) (λ e. refl)
       (λ e. by Zero (eqb reg 14) (λ e. refl)
@@ -150,18 +150,18 @@ module _ (c : Card) (reg : ℕ) where
       (λ e. by Zero (eqb reg 16) (λ e. refl)
       (λ e. by Zero (eqb reg 17) (λ e. refl) (λ e. refl)))))))))
 
-  read-zero : (read_register d reg).value ≡ 0
+  read_zero : (read_register d reg).value ≡ 0
   unfolding read_register
-  read-zero = go (pick (eqb reg 0) (with_time_latch d (words_now d)) d) (eqb (read_refusal (lawful d) reg) 0) (read_refusal (lawful d) reg)
+  read_zero = go (pick (eqb reg 0) (with_time_latch d (words_now d)) d) (eqb (read_refusal (lawful d) reg) 0) (read_refusal (lawful d) reg)
     where
       go : (x : Card) (t : Bool) (n : ℕ) → (pick t (value x 0 (shown d reg)) (value d n 0)).value ≡ 0
-      go x true n = shows-zero
+      go x true n = shows_zero
       go x false n = refl
 
 -- every register reads 0
-pub reset-reads : (c : Card) (reg : ℕ) → number Call.reset c ≡ 0 → (read_register (after Call.reset c) reg).value ≡ 0
+pub reset_reads : (c : Card) (reg : ℕ) → number Call.reset c ≡ 0 → (read_register (after Call.reset c) reg).value ≡ 0
 unfolding after
-reset-reads c reg e = ap (λ (a : Answer). (read_register a.card reg).value) (reset-answers c (accepted-lawful Call.reset c e)) ∙ read-zero c reg
+reset_reads c reg e = ap (λ (a : Answer). (read_register a.card reg).value) (reset_answers c (accepted_lawful Call.reset c e)) ∙ read_zero c reg
 
 -- ---- ACK
 
@@ -171,16 +171,16 @@ module _ (c : Card) (v : ℕ) where
   acks l = simp l
 
   -- without bit 7: bit 0 clears the done bit, and without either nothing changes
-  pub ack-clears : number (Call.write 12 v) c ≡ 0 → bit 128 v ≡ false → after (Call.write 12 v) c ≡ pick (bit 1 v) (with_done c false) c
+  pub ack_clears : number (Call.write 12 v) c ≡ 0 → bit 128 v ≡ false → after (Call.write 12 v) c ≡ pick (bit 1 v) (with_done c false) c
   unfolding after acknowledged
-  ack-clears e b = ap (λ (a : Answer). a.card) (acks (accepted-lawful (Call.write 12 v) c e)) ∙ rw b
+  ack_clears e b = ap (λ (a : Answer). a.card) (acks (accepted_lawful (Call.write 12 v) c e)) ∙ rw b
 
   -- with it, an accepted packet sets what it says, the queue is empty and the done bit set; what is refused, `Refusals.Excepted` says
-  pub ack-takes : number (Call.write 12 v) c ≡ 0 → bit 128 v ≡ true
+  pub ack_takes : number (Call.write 12 v) c ≡ 0 → bit 128 v ≡ true
       → ((after (Call.write 12 v) c).settings ≡ applied (packet_in (queued c.queue)) c.settings) × ((after (Call.write 12 v) c).queue ≡ empty_queue) × ((after (Call.write 12 v) c).done ≡ true)
   unfolding number after acknowledged settings_taken
-  ack-takes e b =
-      let w = acks (accepted-lawful (Call.write 12 v) c e) in
+  ack_takes e b =
+      let w = acks (accepted_lawful (Call.write 12 v) c e) in
       let z : ack_number c ≡ 0 = sym (ap (λ (a : Answer). a.number) w ∙ rw b) ∙ e in
       go w z (bit 1 v) refl
     where

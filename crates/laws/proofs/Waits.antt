@@ -14,8 +14,8 @@ use Rattle.clock.specs.Clocks.{with_strobe, with_periodic}
 use Rattle.clock.specs.Setting.{time_set, strobe_kept, periodic_kept}
 use Rattle.clock.specs.Time.{instant}
 use Rattle.clock.specs.Waiting.{records, source_listed, listed, passed, fell, count_later, clock_later}
-use Rattle.clock.proofs.time.Laws.{within-day}
-use Rattle.clock.proofs.waiting.Examples.{page_clock, at-200, at-400, page-date, page-dividers, page-strobe, page-set}
+use Rattle.clock.proofs.time.Laws.{within_day}
+use Rattle.clock.proofs.waiting.Examples.{page_clock, at_200, at_400, page_date, page_dividers, page_strobe, page_set}
 use Rattle.parts.specs.Interrupts.{sources_raised}
 use Rattle.parts.specs.Pending.{raised}
 use Rattle.card.specs.declared.card.Card.{Card}
@@ -29,7 +29,7 @@ use Rattle.card.proofs.setting.Laws.{sets}
 use Rattle.laws.specs.Calls.{Call, after}
 use Rattle.laws.specs.Each.{Each}
 use Rattle.laws.specs.Examples.{page_card, PageCard, Wait, Says, Stated, Example, waits}
-use Rattle.laws.proofs.Keeps.{fresh-lawful, fresh-all, keeps-all}
+use Rattle.laws.proofs.Keeps.{fresh_lawful, fresh_all, keeps_all}
 
 -- ---- what a line says
 
@@ -43,26 +43,26 @@ record Computed (rs : List ℕ) (l : Wait) : Type 0 where
   pending : pending_after (fell l.row) 0 ≡ l.pending
 
 module _ (rs : List ℕ) (l : Wait) (k : Computed rs l) (c : Card) (p : PageCard l.ms c) where
-  not-refused : wait_refusal c 10000000 l.places ≡ 0
+  not_refused : wait_refusal c 10000000 l.places ≡ 0
   unfolding wait_refusal
-  not-refused = rw (p.known, p.clock, within-day (instant 2004 1 0) 10000000 (lit< tt), k.places)
+  not_refused = rw (p.known, p.clock, within_day (instant 2004 1 0) 10000000 (lit< tt), k.places)
 
-  lists-row : listed c.clock 10000000 l.places ≡ l.row
+  lists_row : listed c.clock 10000000 l.places ≡ l.row
   unfolding listed
-  lists-row = rw (p.clock, k.records) k.row
+  lists_row = rw (p.clock, k.records) k.row
 
-  passes-ticks : passed c.clock 10000000 l.places ≡ l.passed
+  passes_ticks : passed c.clock 10000000 l.places ≡ l.passed
   unfolding passed
-  passes-ticks = rw (p.clock, k.records) k.passed
+  passes_ticks = rw (p.clock, k.records) k.passed
 
   says : Says l c
   unfolding wait row_waited card_after clock_later count_later
   says =
       record {
-        waited = rw (not-refused, lists-row, passes-ticks);
-        row = λ r e. rw (e, not-refused, lists-row);
-        count = rw (not-refused, passes-ticks, p.clock) (ap (Periodic.Every 2000 2000) k.count);
-        pending = rw (not-refused, lists-row, p.pending) k.pending;
+        waited = rw (not_refused, lists_row, passes_ticks);
+        row = λ r e. rw (e, not_refused, lists_row);
+        count = rw (not_refused, passes_ticks, p.clock) (ap (Periodic.Every 2000 2000) k.count);
+        pending = rw (not_refused, lists_row, p.pending) k.pending;
       }
 
 -- ---- the page's card
@@ -77,43 +77,43 @@ module _ (ms : ℕ) (h : ms ≤ 999) where
   abbrev set : Card
   set = with_clock divided (with_strobe divided.clock (strobe_kept (StrobeAt.EachSecond ms)))
 
-  time-set : after (Call.set_time 2004 1 0 0 0) fresh_card ≡ timed
+  time_set_lem : after (Call.set_time 2004 1 0 0 0) fresh_card ≡ timed
   unfolding after set_time
-  time-set = ap (λ (a : Answer). a.card) (sets fresh_card timed _ fresh-lawful page-date)
+  time_set_lem = ap (λ (a : Answer). a.card) (sets fresh_card timed _ fresh_lawful page_date)
 
-  timed-lawful : lawful timed ≡ true
-  timed-lawful = sym (ap lawful time-set) ∙ keeps-all (Call.set_time 2004 1 0 0 0 ∷ []) fresh_card fresh-lawful
+  timed_lawful : lawful timed ≡ true
+  timed_lawful = sym (ap lawful time_set_lem) ∙ keeps_all (Call.set_time 2004 1 0 0 0 ∷ []) fresh_card fresh_lawful
 
-  dividers-set : after (Call.set_periodic (Dividers.By 2000 2000)) timed ≡ divided
+  dividers_set : after (Call.set_periodic (Dividers.By 2000 2000)) timed ≡ divided
   unfolding after set_periodic
-  dividers-set = ap (λ (a : Answer). a.card) (sets timed divided _ timed-lawful page-dividers)
+  dividers_set = ap (λ (a : Answer). a.card) (sets timed divided _ timed_lawful page_dividers)
 
-  divided-lawful : lawful divided ≡ true
-  divided-lawful = sym (ap lawful dividers-set) ∙ keeps-all (Call.set_periodic (Dividers.By 2000 2000) ∷ []) timed timed-lawful
+  divided_lawful : lawful divided ≡ true
+  divided_lawful = sym (ap lawful dividers_set) ∙ keeps_all (Call.set_periodic (Dividers.By 2000 2000) ∷ []) timed timed_lawful
 
-  strobe-set : after (Call.set_strobe (StrobeAt.EachSecond ms)) divided ≡ set
+  strobe_set : after (Call.set_strobe (StrobeAt.EachSecond ms)) divided ≡ set
   unfolding after set_strobe
-  strobe-set = ap (λ (a : Answer). a.card) (sets divided set _ divided-lawful (page-strobe ms h))
+  strobe_set = ap (λ (a : Answer). a.card) (sets divided set _ divided_lawful (page_strobe ms h))
 
-  card-set : page_card ms ≡ set
-  card-set =
-      ap (λ (c : Card). after (Call.set_strobe (StrobeAt.EachSecond ms)) (after (Call.set_periodic (Dividers.By 2000 2000)) c)) time-set
-      ∙ ap (after (Call.set_strobe (StrobeAt.EachSecond ms))) dividers-set ∙ strobe-set
+  card_set : page_card ms ≡ set
+  card_set =
+      ap (λ (c : Card). after (Call.set_strobe (StrobeAt.EachSecond ms)) (after (Call.set_periodic (Dividers.By 2000 2000)) c)) time_set_lem
+      ∙ ap (after (Call.set_strobe (StrobeAt.EachSecond ms))) dividers_set ∙ strobe_set
 
-  page-card : PageCard ms (page_card ms)
+  page_card_lem : PageCard ms (page_card ms)
   unfolding fresh_card
-  page-card = record { known = fresh-all (Call.set_time 2004 1 0 0 0 ∷ Call.set_periodic (Dividers.By 2000 2000) ∷ Call.set_strobe (StrobeAt.EachSecond ms) ∷ []); clock = ap (λ (c : Card). c.clock) card-set ∙ page-set ms; pending = ap (λ (c : Card). c.interrupts.pending) card-set }
+  page_card_lem = record { known = fresh_all (Call.set_time 2004 1 0 0 0 ∷ Call.set_periodic (Dividers.By 2000 2000) ∷ Call.set_strobe (StrobeAt.EachSecond ms) ∷ []); clock = ap (λ (c : Card). c.clock) card_set ∙ page_set ms; pending = ap (λ (c : Card). c.interrupts.pending) card_set }
 
 -- ---- the three lines
 
 pub starred : Each (λ (l : Wait). Stated (Example.wait l)) waits
 unfolding sources_raised raised source_listed
 starred = (
-  (page-card 200 (lit≤ tt), says _ _ (record { records = at-200; places = refl; row = refl; passed = refl; count = refl; pending = refl })),
+  (page_card_lem 200 (lit≤ tt), says _ _ (record { records = at_200; places = refl; row = refl; passed = refl; count = refl; pending = refl })),
   (
-    (page-card 200 (lit≤ tt), says _ _ (record { records = at-200; places = refl; row = refl; passed = refl; count = refl; pending = refl })),
+    (page_card_lem 200 (lit≤ tt), says _ _ (record { records = at_200; places = refl; row = refl; passed = refl; count = refl; pending = refl })),
     (
-      (page-card 400 (lit≤ tt), says _ _ (record { records = at-400; places = refl; row = refl; passed = refl; count = refl; pending = refl })),
+      (page_card_lem 400 (lit≤ tt), says _ _ (record { records = at_400; places = refl; row = refl; passed = refl; count = refl; pending = refl })),
       tt,
     ),
   ),

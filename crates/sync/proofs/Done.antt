@@ -9,24 +9,24 @@ use Rattle.sync.specs.Stepping.{stepped}
 use Rattle.sync.specs.Interrupts.{next, next_taken, take_interrupt}
 use Rattle.sync.specs.Register.{shown, read_register}
 use Rattle.sync.specs.Calls.{Call, after}
-use Rattle.sync.proofs.stepping.Laws.{later, quiet_one, quiet-later}
+use Rattle.sync.proofs.stepping.Laws.{later, quiet_one, quiet_later}
 
 module _ (b : Board) (h : lawful b ≡ true) where
-  pub set-done : (rc1 base : ℕ) → switches_fit rc1 base ≡ true → after (Call.set_switches rc1 base) b ≡ started rc1 base
-  set-done rc1 base f = simp (h, f)
+  pub set_done : (rc1 base : ℕ) → switches_fit rc1 base ≡ true → after (Call.set_switches rc1 base) b ≡ started rc1 base
+  set_done rc1 base f = simp (h, f)
 
-  pub set-refused : (rc1 base : ℕ) → switches_fit rc1 base ≡ false → after (Call.set_switches rc1 base) b ≡ b
-  set-refused rc1 base f = simp (h, f)
+  pub set_refused : (rc1 base : ℕ) → switches_fit rc1 base ≡ false → after (Call.set_switches rc1 base) b ≡ b
+  set_refused rc1 base f = simp (h, f)
 
-  pub step-done : (pulse : Bool) → after (Call.step pulse) b ≡ stepped b pulse
-  step-done pulse = simp h
+  pub step_done : (pulse : Bool) → after (Call.step pulse) b ≡ stepped b pulse
+  step_done pulse = simp h
 
-  pub run-done : (n : ℕ) → after (Call.run n) b ≡ later n b
-  run-done n = simp h (quiet-later n b h)
+  pub run_done : (n : ℕ) → after (Call.run n) b ≡ later n b
+  run_done n = simp h (quiet_later n b h)
 
   -- a quiet step is a run of one
-  pub quiet-done : after (Call.step false) b ≡ later 1 b
-  quiet-done = step-done false ∙ quiet_one b ∙ quiet-later 1 b h
+  pub quiet_done : after (Call.step false) b ≡ later 1 b
+  quiet_done = step_done false ∙ quiet_one b ∙ quiet_later 1 b h
 
   pub read_done : (read_register b).value ≡ shown b
   read_done = simp h
@@ -34,5 +34,5 @@ module _ (b : Board) (h : lawful b ≡ true) where
   pub take_done : after Call.take b ≡ next_taken b
   take_done = simp h
 
-  pub vector-done : (take_interrupt b).interrupt ≡ next b
-  vector-done = simp h
+  pub vector_done : (take_interrupt b).interrupt ≡ next b
+  vector_done = simp h

@@ -8,18 +8,18 @@ use mathlib.Core.Logic.{◌↔◌}
 use lib.Dec.{eqb}
 use borrow.Author.Tests.{not-true}
 use Rattle.wire.specs.Numbers.{Line, ◌if◌, given, quiet, absent}
-use Rattle.wire.proofs.numbers.Laws.{given-exactly, given-zero}
+use Rattle.wire.proofs.numbers.Laws.{given_exactly, given_zero}
 use Rattle.sync.specs.declared.board.Board.{Board}
 use Rattle.sync.specs.Lawful.{lawful}
 use Rattle.sync.specs.Boards.{switches_fit}
 use Rattle.sync.specs.Calls.{Call, number, lines}
 
-pub number-given : (k : Call) (b : Board) → number k b ≡ given (lines k b)
-number-given (Call.set_switches rc1 base) b = refl
-number-given (Call.step pulse) b = refl
-number-given (Call.run n) b = refl
-number-given Call.read b = refl
-number-given Call.take b = refl
+pub number_given : (k : Call) (b : Board) → number k b ≡ given (lines k b)
+number_given (Call.set_switches rc1 base) b = refl
+number_given (Call.step pulse) b = refl
+number_given (Call.run n) b = refl
+number_given Call.read b = refl
+number_given Call.take b = refl
 
 -- no line has the number 0
 numbered : (k : Call) (b : Board) → absent 0 (lines k b) ≡ true
@@ -30,13 +30,13 @@ numbered Call.read b = refl
 numbered Call.take b = refl
 
 -- 0 is given exactly if no line holds
-pub done-exactly-if : (k : Call) (b : Board) → number k b ≡ 0 ↔ quiet (lines k b) ≡ true
-done-exactly-if k b = rw (number-given k b) (given-zero (lines k b) (numbered k b))
+pub done_exactly_if : (k : Call) (b : Board) → number k b ≡ 0 ↔ quiet (lines k b) ≡ true
+done_exactly_if k b = rw (number_given k b) (given_zero (lines k b) (numbered k b))
 
 -- and any other number exactly if its line holds and no line above it does
-pub given-exactly-if : (k : Call) (b : Board) (n : ℕ) (above below : List Line) (t : Bool) → lines k b ≡ above ++ (n if t ∷ below)
+pub given_exactly_if : (k : Call) (b : Board) (n : ℕ) (above below : List Line) (t : Bool) → lines k b ≡ above ++ (n if t ∷ below)
     → eqb n 0 ≡ false → absent n above ≡ true → absent n below ≡ true → number k b ≡ n ↔ ((t ≡ true) × (quiet above ≡ true))
-given-exactly-if k b n above below t l z x y = rw (number-given k b ∙ ap given l) (given-exactly n above below t z x y)
+given_exactly_if k b n above below t l z x y = rw (number_given k b ∙ ap given l) (given_exactly n above below t z x y)
 
 -- 18 is the first line of every call, and of no other
 abbrev rest : Call → List Line
@@ -63,5 +63,5 @@ once Call.take = refl
 -- so it is given exactly if the board is not lawful, whatever the call
 pub eighteen : (k : Call) (b : Board) → number k b ≡ 18 ↔ lawful b ≡ false
 eighteen k b =
-    let x = given-exactly-if k b 18 [] (rest k) (not (lawful b)) (first k b) refl refl (once k) in
+    let x = given_exactly_if k b 18 [] (rest k) (not (lawful b)) (first k b) refl refl (once k) in
     (λ e. not-true (lawful b) (x.0 e).0, λ u. x.1 (ap not u, refl))

@@ -11,7 +11,7 @@ use lib.ListN.{replicate}
 use borrow.Author.Tests.{le-leb, lt-leb, lt-ltb, le-ltb, eq-eqb, ne_eqb, not-true, not-false}
 use Rattle.wire.specs.Digits.{pick}
 use Rattle.wire.specs.Numbers.{given}
-use Rattle.wire.proofs.digits.Laws.{and_both, clash, lt-or-le, or_assoc, or_left, or_right}
+use Rattle.wire.proofs.digits.Laws.{and_both, clash, lt_or_le, or_assoc, or_left, or_right}
 use Rattle.sync.specs.declared.board.Board.{Board}
 use Rattle.sync.specs.Boards.{switches_fit, started, fresh_board, with_waiting}
 use Rattle.sync.specs.Counting.{frequency, count, count_falls}
@@ -22,12 +22,12 @@ use Rattle.sync.specs.Register.{shown, read_register}
 use Rattle.sync.specs.Interrupts.{err_taken, slo_taken, fast_taken, next_taken}
 use Rattle.sync.specs.Calls.{Call, after, after_all}
 use Rattle.sync.specs.Runs.{pulsed_board, quiet_call, quiet_calls, lasts, lasts_all, Since, pulse, pulseless, Before}
-use Rattle.sync.proofs.counting.Laws.{count_none, count-late, frequency-above}
-use Rattle.sync.proofs.lawful.Laws.{still, seen-fits, seen-late}
-use Rattle.sync.proofs.stepping.Laws.{missed, counted, passed, later, held_below, as-held, held-plus, falls-held, count-of-held, later-seen, later-unseen}
-use Rattle.sync.proofs.interrupts.Laws.{none-waits}
-use Rattle.sync.proofs.Keeps.{keeps, keeps-all, started-lawful}
-use Rattle.sync.proofs.Done.{set-done, set-refused, step-done, run-done, quiet-done, read_done, take_done, vector-done}
+use Rattle.sync.proofs.counting.Laws.{count_none, count_late, frequency_above}
+use Rattle.sync.proofs.lawful.Laws.{still, seen_fits_lem, seen_late}
+use Rattle.sync.proofs.stepping.Laws.{missed, counted, passed, later, held_below, as_held, held_plus, falls_held, count_of_held, later_seen, later_unseen}
+use Rattle.sync.proofs.interrupts.Laws.{none_waits}
+use Rattle.sync.proofs.Keeps.{keeps, keeps_all, started_lawful}
+use Rattle.sync.proofs.Done.{set_done, set_refused, step_done, run_done, quiet_done, read_done, take_done, vector_done}
 
 -- A RUN IS AS MANY SINGLE STEPS
 
@@ -36,43 +36,43 @@ unfolding quiet_steps
 first_step zero b = refl
 first_step (suc n) b = ap (λ (d : Board). stepped d false) (first_step n b)
 
-one-by-one-lawful : (n : ℕ) (b : Board) → lawful b ≡ true → after_all (replicate n (Call.step false)) b ≡ quiet_steps n b
+one_by_one_lawful : (n : ℕ) (b : Board) → lawful b ≡ true → after_all (replicate n (Call.step false)) b ≡ quiet_steps n b
 unfolding quiet_steps
-one-by-one-lawful zero b h = refl
-one-by-one-lawful (suc n) b h =
-    one-by-one-lawful n (after (Call.step false) b) (keeps (Call.step false) b h)
-    ∙ ap (quiet_steps n) (step-done b h false)
+one_by_one_lawful zero b h = refl
+one_by_one_lawful (suc n) b h =
+    one_by_one_lawful n (after (Call.step false) b) (keeps (Call.step false) b h)
+    ∙ ap (quiet_steps n) (step_done b h false)
     ∙ first_step n b
 
-one-by-one-refused : (n : ℕ) (b : Board) → lawful b ≡ false → after_all (replicate n (Call.step false)) b ≡ b
-one-by-one-refused zero b u = refl
-one-by-one-refused (suc n) b u = ap (after_all (replicate n (Call.step false))) (simp u) ∙ one-by-one-refused n b u
+one_by_one_refused : (n : ℕ) (b : Board) → lawful b ≡ false → after_all (replicate n (Call.step false)) b ≡ b
+one_by_one_refused zero b u = refl
+one_by_one_refused (suc n) b u = ap (after_all (replicate n (Call.step false))) (simp u) ∙ one_by_one_refused n b u
 
 -- of every board: one that is not lawful stays in both
 pub one_by_one_lem : (n : ℕ) (b : Board) → after (Call.run n) b ≡ after_all (replicate n (Call.step false)) b
 one_by_one_lem n b = go (lawful b) refl
   where
     go : (t : Bool) → lawful b ≡ t → after (Call.run n) b ≡ after_all (replicate n (Call.step false)) b
-    go true h = simp h (sym (one-by-one-lawful n b h))
-    go false u = simp u (sym (one-by-one-refused n b u))
+    go true h = simp h (sym (one_by_one_lawful n b h))
+    go false u = simp u (sym (one_by_one_refused n b u))
 
 -- AFTER A PULSE
 
 -- for a lawful board a pulse that is not in time leaves the bit set
-out-of-time : (b : Board) → lawful b ≡ true → in_time b ≡ false → (b.bit || errs b true) ≡ true
+out_of_time : (b : Board) → lawful b ≡ true → in_time b ≡ false → (b.bit || errs b true) ≡ true
 unfolding in_time errs
-out-of-time b h o =
+out_of_time b h o =
     let s = not-false b.seen (or_left (not b.seen) _ o) in
     ⊎_elim
     (λ l. simp (s, lt-ltb (reached b) 992000 l, or-true))
     (λ g. ⊎_elim
     (λ k. ⊎_elim
     (λ m. simp (s, eq-eqb (reached b) 1008001 (omega arith), or-true))
-    (λ m. simp (seen-late b (seen-fits b s h) (le-ltb b.elapsed 1008001 m)).bit)
-    (lt-or-le b.elapsed 1008001))
+    (λ m. simp (seen_late b (seen_fits_lem b s h) (le-ltb b.elapsed 1008001 m)).bit)
+    (lt_or_le b.elapsed 1008001))
     (λ k. clash (sym (ap₂ (λ (x y : Bool). x && y) (le-leb 992000 (reached b) g) (le-leb (reached b) 1008000 k)) ∙ or_right (not b.seen) _ o))
-    (lt-or-le 1008000 (reached b)))
-    (lt-or-le (reached b) 992000)
+    (lt_or_le 1008000 (reached b)))
+    (lt_or_le (reached b) 992000)
 
 -- a board d, the microsecond j after a pulse that came to b
 record At (b : Board) (j : ℕ) (d : Board) : Type 0 where
@@ -82,53 +82,53 @@ record At (b : Board) (j : ℕ) (d : Board) : Type 0 where
   elapsed : d.elapsed ≡ held j
   bit : d.bit ≡ (not (in_time b) || leb 1008001 j)
 
-pulse-bit : (b : Board) → lawful b ≡ true → pick (true && in_time b) false (b.bit || errs b true) ≡ not (in_time b)
-pulse-bit b h = go (in_time b) refl
+pulse_bit : (b : Board) → lawful b ≡ true → pick (true && in_time b) false (b.bit || errs b true) ≡ not (in_time b)
+pulse_bit b h = go (in_time b) refl
   where
     go : (t : Bool) → in_time b ≡ t → pick (true && in_time b) false (b.bit || errs b true) ≡ not (in_time b)
     go true e = simp e
-    go false e = simp (e, out-of-time b h e)
+    go false e = simp (e, out_of_time b h e)
 
-at-pulse : (b : Board) → lawful b ≡ true → At b 0 (after (Call.step true) b)
+at_pulse : (b : Board) → lawful b ≡ true → At b 0 (after (Call.step true) b)
 unfolding stepped held
-at-pulse b h =
-    rw (step-done b h true)
+at_pulse b h =
+    rw (step_done b h true)
     (record {
-      known = rw (sym (step-done b h true)) (keeps (Call.step true) b h);
+      known = rw (sym (step_done b h true)) (keeps (Call.step true) b h);
       seen = or-true b.seen;
       rc1 = refl;
       elapsed = refl;
-      bit = pulse-bit b h ∙ sym (or-false (not (in_time b)));
+      bit = pulse_bit b h ∙ sym (or-false (not (in_time b)));
     })
 
-missed-plus : (j n : ℕ) → (leb 1008001 j || (ltb (held j) 1008001 && leb 1008001 (held j + n))) ≡ leb 1008001 (j + n)
-missed-plus j n =
+missed_plus : (j n : ℕ) → (leb 1008001 j || (ltb (held j) 1008001 && leb 1008001 (held j + n))) ≡ leb 1008001 (j + n)
+missed_plus j n =
     ⊎_elim
     (λ l. rw (lt-leb 1008001 j l, held_below j l, lt-ltb j 1008001 l) refl)
     (λ g. rw (le-leb 1008001 j g) (sym (le-leb 1008001 (j + n) (omega arith))))
-    (lt-or-le j 1008001)
+    (lt_or_le j 1008001)
 
 module _ (b : Board) where
   -- so many microseconds on
-  at-passed : (j n : ℕ) (d : Board) → At b j d → lawful (passed n d) ≡ true → At b (j + n) (passed n d)
-  at-passed j n d a h =
+  at_passed : (j n : ℕ) (d : Board) → At b j d → lawful (passed n d) ≡ true → At b (j + n) (passed n d)
+  at_passed j n d a h =
       record {
         known = h;
         seen = a.seen;
         rc1 = a.rc1;
-        elapsed = rw a.elapsed (held-plus j n);
-        bit = rw (a.bit, a.elapsed) (or_assoc (not (in_time b)) (leb 1008001 j) _ ∙ ap (λ (t : Bool). not (in_time b) || t) (missed-plus j n));
+        elapsed = rw a.elapsed (held_plus j n);
+        bit = rw (a.bit, a.elapsed) (or_assoc (not (in_time b)) (leb 1008001 j) _ ∙ ap (λ (t : Bool). not (in_time b) || t) (missed_plus j n));
       }
 
-  at-run : (k : Call) (j n : ℕ) (d : Board) → At b j d → after k d ≡ later n d → At b (j + n) (after k d)
-  at-run k j n d a e =
-      let q = e ∙ later-seen n d a.seen in
-      rw q (at-passed j n d a (rw (sym q) (keeps k d a.known)))
+  at_run : (k : Call) (j n : ℕ) (d : Board) → At b j d → after k d ≡ later n d → At b (j + n) (after k d)
+  at_run k j n d a e =
+      let q = e ∙ later_seen n d a.seen in
+      rw q (at_passed j n d a (rw (sym q) (keeps k d a.known)))
 
   -- the same microsecond, with an interrupt taken
-  at-taken : (j : ℕ) (d : Board) → At b j d → lawful (next_taken d) ≡ true → At b j (next_taken d)
+  at_taken : (j : ℕ) (d : Board) → At b j d → lawful (next_taken d) ≡ true → At b j (next_taken d)
   unfolding next_taken
-  at-taken j d a =
+  at_taken j d a =
       either d.err (err_taken d) _ (flags false d.slo d.fast)
       (either d.slo (slo_taken d) _ (flags d.err false d.fast) (either d.fast (fast_taken d) d (flags d.err d.slo false) (λ h. a)))
     where
@@ -142,12 +142,12 @@ module _ (b : Board) where
 
   -- whatever quiet call is made
   at_call : (k : Call) (j : ℕ) (d : Board) → quiet_call k ≡ true → At b j d → At b (j + lasts k) (after k d)
-  at_call (Call.set_switches rc1 base) j d q a = rw (add-zero j, set-refused d a.known rc1 base (not-true (switches_fit rc1 base) q)) a
+  at_call (Call.set_switches rc1 base) j d q a = rw (add-zero j, set_refused d a.known rc1 base (not-true (switches_fit rc1 base) q)) a
   at_call (Call.step true) j d q a = clash (sym q)
-  at_call (Call.step false) j d q a = at-run (Call.step false) j 1 d a (quiet-done d a.known)
-  at_call (Call.run n) j d q a = at-run (Call.run n) j n d a (run-done d a.known n)
+  at_call (Call.step false) j d q a = at_run (Call.step false) j 1 d a (quiet_done d a.known)
+  at_call (Call.run n) j d q a = at_run (Call.run n) j n d a (run_done d a.known n)
   at_call Call.read j d q a = rw (add-zero j) a
-  at_call Call.take j d q a = rw (add-zero j, take_done d a.known) (at-taken j d a (rw (sym (take_done d a.known)) (keeps Call.take d a.known)))
+  at_call Call.take j d q a = rw (add-zero j, take_done d a.known) (at_taken j d a (rw (sym (take_done d a.known)) (keeps Call.take d a.known)))
 
   at_all : (ks : List Call) (j : ℕ) (d : Board) → quiet_calls ks ≡ true → At b j d → At b (j + lasts_all ks) (after_all ks d)
   at_all [] j d q a = rw (add-zero j) a
@@ -158,145 +158,145 @@ module _ (b : Board) where
   -- THE REGISTER, AND THE NEXT MICROSECOND
 
   module _ (j : ℕ) (d : Board) (a : At b j d) where
-    register-at : (read_register d).value ≡ pick (not (in_time b) || leb 1008001 j) 0x8000 0 + count (frequency b.rc1) j
+    register_at : (read_register d).value ≡ pick (not (in_time b) || leb 1008001 j) 0x8000 0 + count (frequency b.rc1) j
     unfolding shown
-    register-at =
+    register_at =
         read_done d a.known
-        ∙ rw (a.bit, a.rc1, a.elapsed, count-of-held (frequency b.rc1) j (frequency-above b.rc1)) refl
+        ∙ rw (a.bit, a.rc1, a.elapsed, count_of_held (frequency b.rc1) j (frequency_above b.rc1)) refl
 
     -- a test of the next microsecond goes as if it were not held
-    next-is : (test : ℕ → Bool) → (1008001 ≤ j → test 1008002 ≡ test (j + 1)) → test (reached d) ≡ test (j + 1)
-    next-is test f = ap (λ (x : ℕ). test (x + 1)) a.elapsed ∙ as-held (λ (x : ℕ). test (x + 1)) j f
+    next_is : (test : ℕ → Bool) → (1008001 ≤ j → test 1008002 ≡ test (j + 1)) → test (reached d) ≡ test (j + 1)
+    next_is test f = ap (λ (x : ℕ). test (x + 1)) a.elapsed ∙ as_held (λ (x : ℕ). test (x + 1)) j f
 
-    late-next : eqb (reached d) 1008001 ≡ eqb (j + 1) 1008001
-    late-next = next-is (λ (x : ℕ). eqb x 1008001) (λ g. sym (ne_eqb (j + 1) 1008001 (λ q. omega arith)))
+    late_next : eqb (reached d) 1008001 ≡ eqb (j + 1) 1008001
+    late_next = next_is (λ (x : ℕ). eqb x 1008001) (λ g. sym (ne_eqb (j + 1) 1008001 (λ q. omega arith)))
 
-    early-next : ltb (reached d) 992000 ≡ ltb (j + 1) 992000
-    early-next = next-is (λ (x : ℕ). ltb x 992000) (λ g. sym (le-ltb (j + 1) 992000 (omega arith)))
+    early_next : ltb (reached d) 992000 ≡ ltb (j + 1) 992000
+    early_next = next_is (λ (x : ℕ). ltb x 992000) (λ g. sym (le-ltb (j + 1) 992000 (omega arith)))
 
-    in-time-next : in_time d ≡ (leb 992000 (j + 1) && leb (j + 1) 1008000)
+    in_time_next : in_time d ≡ (leb 992000 (j + 1) && leb (j + 1) 1008000)
     unfolding in_time
-    in-time-next =
+    in_time_next =
         simp a.seen
-        (next-is (λ (x : ℕ). leb 992000 x && leb x 1008000) (λ g. sym (ap₂ (λ (x y : Bool). x && y) (le-leb 992000 (j + 1) (omega arith)) (lt-leb (j + 1) 1008000 (omega arith)))))
+        (next_is (λ (x : ℕ). leb 992000 x && leb x 1008000) (λ g. sym (ap₂ (λ (x y : Bool). x && y) (le-leb 992000 (j + 1) (omega arith)) (lt-leb (j + 1) 1008000 (omega arith)))))
 
-    counts-next : counts d ≡ count_falls (frequency b.rc1) (j + 1)
+    counts_next : counts d ≡ count_falls (frequency b.rc1) (j + 1)
     unfolding counts
-    counts-next =
-        simp (a.seen, a.rc1, a.elapsed) (falls-held (frequency b.rc1) j (frequency-above b.rc1))
+    counts_next =
+        simp (a.seen, a.rc1, a.elapsed) (falls_held (frequency b.rc1) j (frequency_above b.rc1))
 
-    errs-next : (pulse : Bool) → errs d pulse ≡ ((pulse && ltb (j + 1) 992000) || eqb (j + 1) 1008001)
+    errs_next : (pulse : Bool) → errs d pulse ≡ ((pulse && ltb (j + 1) 992000) || eqb (j + 1) 1008001)
     unfolding errs
-    errs-next pulse = rw (a.seen, early-next, late-next) refl
+    errs_next pulse = rw (a.seen, early_next, late_next) refl
 
     -- A RUN FROM HERE
 
     run_is : (n : ℕ) → after (Call.run n) d ≡ passed n d
-    run_is n = run-done d a.known n ∙ later-seen n d a.seen
+    run_is n = run_done d a.known n ∙ later_seen n d a.seen
 
-    missed-at : (n : ℕ) → missed d n ≡ (ltb j 1008001 && leb 1008001 (j + n))
-    missed-at n =
+    missed_at : (n : ℕ) → missed d n ≡ (ltb j 1008001 && leb 1008001 (j + n))
+    missed_at n =
         rw a.elapsed
-        (as-held (λ (x : ℕ). ltb x 1008001 && leb 1008001 (x + n)) j (λ g. sym (ap (λ (t : Bool). t && leb 1008001 (j + n)) (le-ltb j 1008001 g))))
+        (as_held (λ (x : ℕ). ltb x 1008001 && leb 1008001 (x + n)) j (λ g. sym (ap (λ (t : Bool). t && leb 1008001 (j + n)) (le-ltb j 1008001 g))))
 
-    counted-at : (n : ℕ) → counted d n ≡ ltb (count (frequency b.rc1) j) (count (frequency b.rc1) (j + n))
-    counted-at n =
+    counted_at : (n : ℕ) → counted d n ≡ ltb (count (frequency b.rc1) j) (count (frequency b.rc1) (j + n))
+    counted_at n =
         let f = frequency b.rc1 in
-        let late = count-late f (frequency-above b.rc1) in
+        let late = count_late f (frequency_above b.rc1) in
         rw (a.rc1, a.elapsed)
-        (as-held (λ (x : ℕ). ltb (count f x) (count f (x + n))) j
+        (as_held (λ (x : ℕ). ltb (count f x) (count f (x + n))) j
         (λ g. ap₂ ltb (late 1008001 (omega arith) ∙ sym (late j (omega arith))) (late (1008001 + n) (omega arith) ∙ sym (late (j + n) (omega arith)))))
 
     since_at : Since b j d
     unfolding stepped
     since_at =
         record {
-          shows = register-at;
-          quiet-err = ap (λ (x : Board). x.err) (step-done d a.known false) ∙ ap (λ (t : Bool). d.err || t) (errs-next false);
-          quiet-slo = ap (λ (x : Board). x.slo) (step-done d a.known false) ∙ or-false d.slo;
-          quiet-fast = ap (λ (x : Board). x.fast) (step-done d a.known false) ∙ ap (λ (t : Bool). d.fast || t) counts-next;
-          run-err = λ n. ap (λ (x : Board). x.err) (run_is n) ∙ ap (λ (t : Bool). d.err || t) (missed-at n);
-          run-slo = λ n. ap (λ (x : Board). x.slo) (run_is n);
-          run-fast = λ n. ap (λ (x : Board). x.fast) (run_is n) ∙ ap (λ (t : Bool). d.fast || t) (counted-at n);
-          pulse-err = ap (λ (x : Board). x.err) (step-done d a.known true) ∙ ap (λ (t : Bool). d.err || t) (errs-next true);
-          in-time = in-time-next;
-          pulse-bit = (at-pulse d a.known).bit ∙ or-false (not (in_time d)) ∙ ap not in-time-next;
+          shows = register_at;
+          quiet_err = ap (λ (x : Board). x.err) (step_done d a.known false) ∙ ap (λ (t : Bool). d.err || t) (errs_next false);
+          quiet_slo = ap (λ (x : Board). x.slo) (step_done d a.known false) ∙ or-false d.slo;
+          quiet_fast = ap (λ (x : Board). x.fast) (step_done d a.known false) ∙ ap (λ (t : Bool). d.fast || t) counts_next;
+          run_err = λ n. ap (λ (x : Board). x.err) (run_is n) ∙ ap (λ (t : Bool). d.err || t) (missed_at n);
+          run_slo = λ n. ap (λ (x : Board). x.slo) (run_is n);
+          run_fast = λ n. ap (λ (x : Board). x.fast) (run_is n) ∙ ap (λ (t : Bool). d.fast || t) (counted_at n);
+          pulse_err = ap (λ (x : Board). x.err) (step_done d a.known true) ∙ ap (λ (t : Bool). d.err || t) (errs_next true);
+          in_time_lem = in_time_next;
+          pulse_bit = (at_pulse d a.known).bit ∙ or-false (not (in_time d)) ∙ ap not in_time_next;
         }
 
 -- the page's law: a pulse, and any quiet calls after it
 pub since : (b : Board) → lawful b ≡ true → (ks : List Call) → quiet_calls ks ≡ true → Since b (lasts_all ks) (after_all ks (after (Call.step true) b))
-since b h ks q = since_at b (lasts_all ks) (after_all ks (after (Call.step true) b)) (rw (zero-add (lasts_all ks)) at (at_all b ks 0 (after (Call.step true) b) q (at-pulse b h)))
+since b h ks q = since_at b (lasts_all ks) (after_all ks (after (Call.step true) b)) (rw (zero-add (lasts_all ks)) at (at_all b ks 0 (after (Call.step true) b) q (at_pulse b h)))
 
 -- ONE MICROSECOND
 
 module _ (b : Board) (h : lawful b ≡ true) where
-  pub pulsed-is : after (Call.step true) b ≡ pulsed_board b (not (in_time b)) (b.err || errs b true)
+  pub pulsed_is : after (Call.step true) b ≡ pulsed_board b (not (in_time b)) (b.err || errs b true)
   unfolding stepped
-  pulsed-is = step-done b h true ∙ simp (or-true) (ap (λ (t : Bool). pulsed_board b t (b.err || errs b true)) (pulse-bit b h))
+  pulsed_is = step_done b h true ∙ simp (or-true) (ap (λ (t : Bool). pulsed_board b t (b.err || errs b true)) (pulse_bit b h))
 
   -- the first pulse ever is in time, whatever time went by
-  pub first-pulse : b.seen ≡ false → after (Call.step true) b ≡ pulsed_board b false false
+  pub first_pulse : b.seen ≡ false → after (Call.step true) b ≡ pulsed_board b false false
   unfolding in_time errs
-  first-pulse u = pulsed-is ∙ simp (u, (still b u h).err)
+  first_pulse u = pulsed_is ∙ simp (u, (still b u h).err)
 
   -- an error and a late pulse on one microsecond: one ERR, and the bit stays set
-  pub error-with-pulse : b.seen ≡ true → b.elapsed ≡ 1008000 → after (Call.step true) b ≡ pulsed_board b true true
+  pub error_with_pulse : b.seen ≡ true → b.elapsed ≡ 1008000 → after (Call.step true) b ≡ pulsed_board b true true
   unfolding in_time errs
-  error-with-pulse s e = pulsed-is ∙ simp (s, e, or-true)
+  error_with_pulse s e = pulsed_is ∙ simp (s, e, or-true)
 
   -- a late pulse after the error raises no second one, and leaves the bit set
-  pub late-pulse : b.seen ≡ true → b.elapsed ≡ 1008001 → after (Call.step true) b ≡ pulsed_board b true b.err
+  pub late_pulse : b.seen ≡ true → b.elapsed ≡ 1008001 → after (Call.step true) b ≡ pulsed_board b true b.err
   unfolding in_time errs
-  late-pulse s e = pulsed-is ∙ simp (s, e, or-false)
+  late_pulse s e = pulsed_is ∙ simp (s, e, or-false)
 
 -- BEFORE THE FIRST PULSE
 
 -- no call but a pulse changes that none was seen
-unseen-call : (k : Call) (b : Board) → lawful b ≡ true → b.seen ≡ false → not (pulse k) ≡ true → (after k b).seen ≡ false
-unseen-call (Call.set_switches rc1 base) b h u q = go (eqb (given (switch_lines b rc1 base)) 0)
+unseen_call : (k : Call) (b : Board) → lawful b ≡ true → b.seen ≡ false → not (pulse k) ≡ true → (after k b).seen ≡ false
+unseen_call (Call.set_switches rc1 base) b h u q = go (eqb (given (switch_lines b rc1 base)) 0)
   where
     go : (t : Bool) → (pick t (started rc1 base) b).seen ≡ false
     go true = refl
     go false = u
-unseen-call (Call.step true) b h u q = clash (sym q)
-unseen-call (Call.step false) b h u q = ap (λ (d : Board). d.seen) (quiet-done b h ∙ later-unseen 1 b u) ∙ u
-unseen-call (Call.run n) b h u q = ap (λ (d : Board). d.seen) (run-done b h n ∙ later-unseen n b u) ∙ u
-unseen-call Call.read b h u q = u
-unseen-call Call.take b h u q = let w = still b u h in ap (λ (d : Board). d.seen) (take_done b h ∙ (none-waits b w.err w.slo w.fast).1) ∙ u
+unseen_call (Call.step true) b h u q = clash (sym q)
+unseen_call (Call.step false) b h u q = ap (λ (d : Board). d.seen) (quiet_done b h ∙ later_unseen 1 b u) ∙ u
+unseen_call (Call.run n) b h u q = ap (λ (d : Board). d.seen) (run_done b h n ∙ later_unseen n b u) ∙ u
+unseen_call Call.read b h u q = u
+unseen_call Call.take b h u q = let w = still b u h in ap (λ (d : Board). d.seen) (take_done b h ∙ (none_waits b w.err w.slo w.fast).1) ∙ u
 
-unseen-all : (ks : List Call) (b : Board) → lawful b ≡ true → b.seen ≡ false → pulseless ks ≡ true → (after_all ks b).seen ≡ false
-unseen-all [] b h u q = u
-unseen-all (k ∷ ks) b h u q =
+unseen_all : (ks : List Call) (b : Board) → lawful b ≡ true → b.seen ≡ false → pulseless ks ≡ true → (after_all ks b).seen ≡ false
+unseen_all [] b h u q = u
+unseen_all (k ∷ ks) b h u q =
     let p = and_both (not (pulse k)) (pulseless ks) q in
-    unseen-all ks (after k b) (keeps k b h) (unseen-call k b h u p.0) p.1
+    unseen_all ks (after k b) (keeps k b h) (unseen_call k b h u p.0) p.1
 
-before-is : (d : Board) → lawful d ≡ true → d.seen ≡ false → Before d
+before_is : (d : Board) → lawful d ≡ true → d.seen ≡ false → Before d
 unfolding shown
-before-is d h u =
+before_is d h u =
     let q = still d u h in
     record {
-      shows = read_done d h ∙ rw (q.bit, q.elapsed, count_none (frequency d.rc1) (frequency-above d.rc1)) refl;
-      waits = vector-done d h ∙ (none-waits d q.err q.slo q.fast).0;
+      shows = read_done d h ∙ rw (q.bit, q.elapsed, count_none (frequency d.rc1) (frequency_above d.rc1)) refl;
+      waits = vector_done d h ∙ (none_waits d q.err q.slo q.fast).0;
     }
 
 module _ (ks : List Call) (q : pulseless ks ≡ true) where
-  before-started : (rc1 base : ℕ) → switches_fit rc1 base ≡ true → Before (after_all ks (started rc1 base))
-  before-started rc1 base f =
-      let h = started-lawful rc1 base f in
-      before-is (after_all ks (started rc1 base)) (keeps-all ks (started rc1 base) h) (unseen-all ks (started rc1 base) h refl q)
+  before_started : (rc1 base : ℕ) → switches_fit rc1 base ≡ true → Before (after_all ks (started rc1 base))
+  before_started rc1 base f =
+      let h = started_lawful rc1 base f in
+      before_is (after_all ks (started rc1 base)) (keeps_all ks (started rc1 base) h) (unseen_all ks (started rc1 base) h refl q)
 
   -- from a fresh board
   pub before : Before (after_all ks fresh_board)
   unfolding switches_fit
-  before = before-started 1 0 refl
+  before = before_started 1 0 refl
 
   -- and from any lawful board whose switches are set
-  pub before-anew : (b : Board) → lawful b ≡ true → (rc1 base : ℕ) → switches_fit rc1 base ≡ true → Before (after_all ks (after (Call.set_switches rc1 base) b))
-  before-anew b h rc1 base f = rw (set-done b h rc1 base f) (before-started rc1 base f)
+  pub before_anew : (b : Board) → lawful b ≡ true → (rc1 base : ℕ) → switches_fit rc1 base ≡ true → Before (after_all ks (after (Call.set_switches rc1 base) b))
+  before_anew b h rc1 base f = rw (set_done b h rc1 base f) (before_started rc1 base f)
 
 -- STARTED ANEW
 
 -- a board whose switches are set forgets all that was before
 pub forgets : (b d : Board) (rc1 base : ℕ) → lawful b ≡ true → lawful d ≡ true → switches_fit rc1 base ≡ true
     → after (Call.set_switches rc1 base) b ≡ after (Call.set_switches rc1 base) d
-forgets b d rc1 base h k f = set-done b h rc1 base f ∙ sym (set-done d k rc1 base f)
+forgets b d rc1 base h k f = set_done b h rc1 base f ∙ sym (set_done d k rc1 base f)

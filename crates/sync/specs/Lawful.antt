@@ -1,4 +1,4 @@
--- 18: a board that no calls of ours could have left. Which calls leave each of the others, `way` of Runs.antt says; law `lawful-exactly-if` of proofs/Reached.antt.
+-- 18: a board that no calls of ours could have left. Which calls leave each of the others, `way` of Runs.antt says; law `lawful_exactly_if` of proofs/Reached.antt.
 use Rattle.std.specs.Prelude.{Bool, ◌&&◌, ◌||◌, not, ltb, eqb}
 use Rattle.wire.specs.Digits.{pick}
 use Rattle.sync.specs.declared.board.Board.{Board}

@@ -70,17 +70,17 @@ lasts_all (k ∷ ks) = lasts k + lasts_all ks
 pub record Since (b : Board) (j : ℕ) (d : Board) : Type 0 where
   pub shows : (read_register d).value ≡ pick (not (in_time b) || leb 1008001 j) 0x8000 0 + count (frequency b.rc1) j
   -- the next microsecond raises ERR if it is the 1,008,001st, and FAST if a count falls on it; nothing else
-  pub quiet-err : (after (Call.step false) d).err ≡ (d.err || eqb (j + 1) 1008001)
-  pub quiet-slo : (after (Call.step false) d).slo ≡ d.slo
-  pub quiet-fast : (after (Call.step false) d).fast ≡ (d.fast || count_falls (frequency b.rc1) (j + 1))
+  pub quiet_err : (after (Call.step false) d).err ≡ (d.err || eqb (j + 1) 1008001)
+  pub quiet_slo : (after (Call.step false) d).slo ≡ d.slo
+  pub quiet_fast : (after (Call.step false) d).fast ≡ (d.fast || count_falls (frequency b.rc1) (j + 1))
   -- a run raises ERR if the 1,008,001st is among its microseconds, and FAST if the count rises over it; nothing else
-  pub run-err : (n : ℕ) → (after (Call.run n) d).err ≡ (d.err || (ltb j 1008001 && leb 1008001 (j + n)))
-  pub run-slo : (n : ℕ) → (after (Call.run n) d).slo ≡ d.slo
-  pub run-fast : (n : ℕ) → (after (Call.run n) d).fast ≡ (d.fast || ltb (count (frequency b.rc1) j) (count (frequency b.rc1) (j + n)))
+  pub run_err : (n : ℕ) → (after (Call.run n) d).err ≡ (d.err || (ltb j 1008001 && leb 1008001 (j + n)))
+  pub run_slo : (n : ℕ) → (after (Call.run n) d).slo ≡ d.slo
+  pub run_fast : (n : ℕ) → (after (Call.run n) d).fast ≡ (d.fast || ltb (count (frequency b.rc1) j) (count (frequency b.rc1) (j + n)))
   -- a pulse on the next microsecond raises ERR if it is early, or on the 1,008,001st; and the bit is clear afterwards exactly if the pulse is in time
-  pub pulse-err : (after (Call.step true) d).err ≡ (d.err || (ltb (j + 1) 992000 || eqb (j + 1) 1008001))
-  pub in-time : in_time d ≡ (leb 992000 (j + 1) && leb (j + 1) 1008000)
-  pub pulse-bit : (after (Call.step true) d).bit ≡ not (leb 992000 (j + 1) && leb (j + 1) 1008000)
+  pub pulse_err : (after (Call.step true) d).err ≡ (d.err || (ltb (j + 1) 992000 || eqb (j + 1) 1008001))
+  pub in_time_lem : in_time d ≡ (leb 992000 (j + 1) && leb (j + 1) 1008000)
+  pub pulse_bit : (after (Call.step true) d).bit ≡ not (leb 992000 (j + 1) && leb (j + 1) 1008000)
 
 -- what a pulse leaves of a board: its switches, SLO and FAST waiting, and a new gap
 abbrev pub pulsed_board : Board → Bool → Bool → Board

@@ -1,14 +1,14 @@
 -- The parts of a card in the order in which the code asks them, and what a lawful card tells of each. Assumes nothing.
 use mathlib.Core.Path.{◌≡◌, refl, ap, ◌∙◌}
 use mathlib.Core.Bool.{Bool, true, false, ◌&&◌}
-use Rattle.wire.proofs.digits.Laws.{and_both, and-true}
-use Rattle.wire.proofs.packets.Laws.{and-false}
+use Rattle.wire.proofs.digits.Laws.{and_both, and_true}
+use Rattle.wire.proofs.packets.Laws.{and_false}
 use Rattle.clock.specs.Clocks.{clock_lawful}
 use Rattle.parts.specs.Events.{latch_lawful, control_lawful, event_lawful}
 use Rattle.parts.specs.Interrupts.{interrupts_lawful}
 use Rattle.parts.specs.Queues.{queue_lawful}
 use Rattle.parts.specs.Settings.{settings_lawful, jam_fits}
-use Rattle.parts.proofs.event.Laws.{event-is}
+use Rattle.parts.proofs.event.Laws.{event_is}
 use Rattle.card.specs.declared.card.Card.{Card}
 use Rattle.card.specs.Lawful.{rest_lawful, lawful}
 
@@ -31,7 +31,7 @@ reordered true true l t true true q = order l t q
 reordered true true l t true false q = none l t
 reordered true true l t false j q = none l t
 
-pub rest-parts : (c : Card) →
+pub rest_parts : (c : Card) →
     rest_lawful c
     ≡ (interrupts_lawful c.interrupts
     && (control_lawful c.event.control c.event.closed
@@ -40,26 +40,26 @@ pub rest-parts : (c : Card) →
     && ((latch_lawful c.time_latch && latch_lawful c.event.latch)
     && queue_lawful c.queue)))))
 unfolding rest_lawful
-rest-parts c =
-    rw (event-is c.event) (reordered (interrupts_lawful c.interrupts) (control_lawful c.event.control c.event.closed) (latch_lawful c.event.latch) (latch_lawful c.time_latch) (settings_lawful c.settings) (jam_fits c.jam c.settings) (queue_lawful c.queue))
+rest_parts c =
+    rw (event_is c.event) (reordered (interrupts_lawful c.interrupts) (control_lawful c.event.control c.event.closed) (latch_lawful c.event.latch) (latch_lawful c.time_latch) (settings_lawful c.settings) (jam_fits c.jam c.settings) (queue_lawful c.queue))
 
 -- of a card whose clock is lawful, the other parts decide
-pub clock-lawful : (c : Card) → clock_lawful c.clock ≡ true → lawful c ≡ rest_lawful c
+pub clock_lawful_lem : (c : Card) → clock_lawful c.clock ≡ true → lawful c ≡ rest_lawful c
 unfolding lawful
-clock-lawful c e = ap (λ (t : Bool). rest_lawful c && t) e ∙ and-true (rest_lawful c)
+clock_lawful_lem c e = ap (λ (t : Bool). rest_lawful c && t) e ∙ and_true (rest_lawful c)
 
-pub clock-unlawful : (c : Card) → clock_lawful c.clock ≡ false → lawful c ≡ false
+pub clock_unlawful : (c : Card) → clock_lawful c.clock ≡ false → lawful c ≡ false
 unfolding lawful
-clock-unlawful c e = ap (λ (t : Bool). rest_lawful c && t) e ∙ and-false (rest_lawful c)
+clock_unlawful c e = ap (λ (t : Bool). rest_lawful c && t) e ∙ and_false (rest_lawful c)
 
 -- of a card whose other parts are lawful, the clock decides
-pub rest-lawful : (c : Card) → rest_lawful c ≡ true → lawful c ≡ clock_lawful c.clock
+pub rest_lawful_lem : (c : Card) → rest_lawful c ≡ true → lawful c ≡ clock_lawful c.clock
 unfolding lawful
-rest-lawful c e = simp e
+rest_lawful_lem c e = simp e
 
-pub rest-unlawful : (c : Card) → rest_lawful c ≡ false → lawful c ≡ false
+pub rest_unlawful : (c : Card) → rest_lawful c ≡ false → lawful c ≡ false
 unfolding lawful
-rest-unlawful c e = simp e
+rest_unlawful c e = simp e
 
 -- a lawful card is lawful in each part, and a card lawful in each part is
 pub record Parts (c : Card) : Type 0 where

@@ -13,7 +13,7 @@ use Rattle.card.specs.declared.card.Card.{Card}
 use Rattle.card.specs.Cards.{answer, granted, with_clock}
 use Rattle.card.specs.Lawful.{rest_lawful, lawful}
 use Rattle.card.specs.Setting.{on_clock}
-use Rattle.card.proofs.lawful.Laws.{rest-lawful, rest-unlawful}
+use Rattle.card.proofs.lawful.Laws.{rest_lawful_lem, rest_unlawful}
 
 -- a clock that stays leaves the card as it is
 stays : (c : Card) (d : Clock) (n : ℕ) (t : Bool) → answer (with_clock c (pick t d c.clock)) n ≡ answer (pick t (with_clock c d) c) n
@@ -21,16 +21,16 @@ stays c d n true = refl
 stays c d n false = refl
 
 module _ (c : Card) (ls : List Line) (d : Clock) where
-  by-rest : (t : Bool) → rest_lawful c ≡ t → on_clock c (clock.granted (18 if not (clock_lawful c.clock) ∷ ls) c.clock d) ≡ granted (18 if not (lawful c) ∷ ls) c (with_clock c d)
+  by_rest : (t : Bool) → rest_lawful c ≡ t → on_clock c (clock.granted (18 if not (clock_lawful c.clock) ∷ ls) c.clock d) ≡ granted (18 if not (lawful c) ∷ ls) c (with_clock c d)
   unfolding on_clock granted
-  by-rest true e =
+  by_rest true e =
       let n : ℕ = given (18 if not (clock_lawful c.clock) ∷ ls) in
-      simp (e, rest-lawful c e) (stays c d n (eqb n 0))
-  by-rest false e = simp (e, rest-unlawful c e)
+      simp (e, rest_lawful_lem c e) (stays c d n (eqb n 0))
+  by_rest false e = simp (e, rest_unlawful c e)
 
   -- refused by 18 or by a line, or the card with the clock set
-  pub on-clock : on_clock c (clock.granted (18 if not (clock_lawful c.clock) ∷ ls) c.clock d) ≡ granted (18 if not (lawful c) ∷ ls) c (with_clock c d)
-  on-clock = by-rest (rest_lawful c) refl
+  pub on_clock_lem : on_clock c (clock.granted (18 if not (clock_lawful c.clock) ∷ ls) c.clock d) ≡ granted (18 if not (lawful c) ∷ ls) c (with_clock c d)
+  on_clock_lem = by_rest (rest_lawful c) refl
 
 -- for the laws above: a lawful card, and no line holds
 pub sets : (c d : Card) (ls : List Line) → lawful c ≡ true → given ls ≡ 0 → granted (18 if not (lawful c) ∷ ls) c d ≡ answer d 0

@@ -1,6 +1,6 @@
 -- Each byte either ends the number that is looked for or leaves the same to look for in the rest; at the end nothing is left to look for.
 use Rattle.std.proofs.Common.{◌∙◌, sym, arith}
-use Rattle.cases.proofs.Laws.{found_here, found-on, found_all_lem}
+use Rattle.cases.proofs.Laws.{found_here, found_on, found_all_lem}
 use Rattle.cases.proofs.number_at.Goals as goal
 
 pub returns-then-is_end : goal.returns-then-is_end
@@ -10,7 +10,7 @@ pub loop-i-preserved : goal.loop-i-preserved
 loop-i-preserved c = (
   omega arith,
   rw (c.left_on-left.ensures, c.number_on-n.ensures)
-      (found-on _ _ _ _ _ c.loop-i-test.true c.loop-i.invariant.1 (sym c.is_end.ensures ∙ c.if-is_end.false)),
+      (found_on _ _ _ _ _ c.loop-i-test.true c.loop-i.invariant.1 (sym c.is_end.ensures ∙ c.if-is_end.false)),
 )
 
 pub returns : goal.returns

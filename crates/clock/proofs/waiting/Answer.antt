@@ -11,7 +11,7 @@ use lib.ListN.{length}
 use Rattle.wire.specs.Numbers.{◌if◌, given}
 use Rattle.wire.specs.Time.{ticks_of_day}
 use Rattle.wire.proofs.digits.Laws.{picked, zero_or}
-use Rattle.wire.proofs.numbers.Laws.{given-zero, quiet-first}
+use Rattle.wire.proofs.numbers.Laws.{given_zero, quiet_first}
 use Rattle.clock.specs.declared.clock.Clock.{Clock}
 use Rattle.clock.specs.declared.waiting.Listed.{Listed}
 use Rattle.clock.specs.declared.waiting.Passed.{Passed}
@@ -29,10 +29,10 @@ pub record Accepted (c : Clock) (n room : ℕ) : Type 0 where
 
 pub accepted : (c : Clock) (n room : ℕ) → given (wait_lines c n room) ≡ 0 → Accepted c n room
 accepted c n room e =
-    let a = quiet-first (ltb ticks_of_day n) _ ((given-zero (wait_lines c n room) refl).0 e) in
-    let b = quiet-first (eqb room 0) _ a.1 in
+    let a = quiet_first (ltb ticks_of_day n) _ ((given_zero (wait_lines c n room) refl).0 e) in
+    let b = quiet_first (eqb room 0) _ a.1 in
     let z : room ≡ 0 → ⊥ = eqb-false room 0 b.0 in
-    record { ticks = ltb-false _ _ a.0; places = omega arith; year = ltb-false _ _ (quiet-first (ltb 9999 (later n c.time).year) true b.1).0 }
+    record { ticks = ltb-false _ _ a.0; places = omega arith; year = ltb-false _ _ (quiet_first (ltb 9999 (later n c.time).year) true b.1).0 }
 
 -- and the other way round
 pub accepts : (c : Clock) (n room : ℕ) → Accepted c n room → given (wait_lines c n room) ≡ 0
@@ -43,21 +43,21 @@ known : (k : Bool) (c : Clock) (n room : ℕ) → given (18 if not k ∷ wait_li
 known true c n room e = (refl, e)
 known false c n room e = absurd (omega arith)
 
-pub lawful-accepted : (c : Clock) (n room : ℕ) → pass_refusal c n room ≡ 0 → (clock_lawful c ≡ true) × (given (wait_lines c n room) ≡ 0)
+pub lawful_accepted : (c : Clock) (n room : ℕ) → pass_refusal c n room ≡ 0 → (clock_lawful c ≡ true) × (given (wait_lines c n room) ≡ 0)
 unfolding pass_refusal
-lawful-accepted c n room e = known (clock_lawful c) c n room e
+lawful_accepted c n room e = known (clock_lawful c) c n room e
 
 -- what filling a row asks, and moving the clock by the ticks that it passed
-pub may-list : (c : Clock) (n room : ℕ) → pass_refusal c n room ≡ 0 → (clock_lawful c ≡ true) × (n ≤ ticks_of_day) × (0 < room)
-may-list c n room e =
-    let k = lawful-accepted c n room e in
+pub may_list : (c : Clock) (n room : ℕ) → pass_refusal c n room ≡ 0 → (clock_lawful c ≡ true) × (n ≤ ticks_of_day) × (0 < room)
+may_list c n room e =
+    let k = lawful_accepted c n room e in
     let a = accepted c n room k.1 in
     (k.0, a.ticks, a.places)
 
-pub may-move : (c : Clock) (n room : ℕ) (w : Listed) → pass_refusal c n room ≡ 0 → w ≡ listing c n room → (clock_lawful c ≡ true) × (w.passed ≤ ticks_of_day)
+pub may_move : (c : Clock) (n room : ℕ) (w : Listed) → pass_refusal c n room ≡ 0 → w ≡ listing c n room → (clock_lawful c ≡ true) × (w.passed ≤ ticks_of_day)
 unfolding listing
-may-move c n room w e l =
-    let m = may-list c n room e in
+may_move c n room w e l =
+    let m = may_list c n room e in
     (m.0, le_trans (rw l (passes c n room m.2).0) m.1)
 
 pub refused : (c : Clock) (n r : ℕ) (row : List ℕ) → r ≡ pass_refusal c n (length row) → (r ≡ 0 → ⊥)
@@ -67,10 +67,10 @@ refused c n r row e h =
     let x : eqb (pass_refusal c n (length row)) 0 ≡ false = ne_eqb _ _ (λ z. h (e ∙ z)) in
     (simp x (ap (λ (k : ℕ). record { clock = c; number = k; passed = record { ticks = 0 }; written = 0; fell = fell [] }) e), simp x)
 
-pub pass-answers : (c : Clock) (n : ℕ) (row₀ row₁ : List ℕ) (w : Listed) (d : Clock) → pass_refusal c n (length row₀) ≡ 0 → w ≡ listing c n (length row₀) → row₁ ≡ row_listed c n row₀ → d ≡ clock_later w.passed c
+pub pass_answers : (c : Clock) (n : ℕ) (row₀ row₁ : List ℕ) (w : Listed) (d : Clock) → pass_refusal c n (length row₀) ≡ 0 → w ≡ listing c n (length row₀) → row₁ ≡ row_listed c n row₀ → d ≡ clock_later w.passed c
     → (◌≡◌ {A = Passed} (record { clock = d; number = 0; passed = record { ticks = w.passed }; written = w.written; fell = w.fell }) (pass c n (length row₀))) × (row₁ ≡ row_passed c n row₀)
 unfolding pass row_passed listing
-pass-answers c n row₀ row₁ w d e l r k =
+pass_answers c n row₀ row₁ w d e l r k =
     let x : eqb (pass_refusal c n (length row₀)) 0 ≡ true = eq-eqb _ _ e in
     (simp x (rw (k, l)), simp x r)
 
@@ -80,27 +80,27 @@ module _ (c : Clock) (n room : ℕ) where
   abbrev table : ℕ
   table = given (18 if not (clock_lawful c) ∷ wait_lines c n room)
 
-  pub pass-done : table ≡ 0
+  pub pass_done : table ≡ 0
       → pass c n room
       ≡ record { clock = clock_later (passed c n room) c; number = 0; passed = record { ticks = passed c n room }; written = length (listed c n room); fell = fell (listed c n room) }
   unfolding pass pass_refusal
-  pass-done e = simp (eq-eqb table 0 e)
+  pass_done e = simp (eq-eqb table 0 e)
 
-  pub pass-not : (table ≡ 0 → ⊥)
+  pub pass_not : (table ≡ 0 → ⊥)
       → pass c n room ≡ record { clock = c; number = table; passed = record { ticks = 0 }; written = 0; fell = record { periodic = false; strobe = false; second = false } }
   unfolding pass pass_refusal source_listed
-  pass-not e = simp (ne_eqb table 0 e)
+  pass_not e = simp (ne_eqb table 0 e)
 
 module _ (c : Clock) (n : ℕ) (row : List ℕ) where
   pub row_done : table c n (length row) ≡ 0 → row_passed c n row ≡ row_listed c n row
   unfolding row_passed pass_refusal
   row_done e = simp (eq-eqb (table c n (length row)) 0 e)
 
-  pub row-not : (table c n (length row) ≡ 0 → ⊥) → row_passed c n row ≡ row
+  pub row_not : (table c n (length row) ≡ 0 → ⊥) → row_passed c n row ≡ row
   unfolding row_passed pass_refusal
-  row-not e = simp (ne_eqb (table c n (length row)) 0 e)
+  row_not e = simp (ne_eqb (table c n (length row)) 0 e)
 
 -- its number is that of its table; a refused wait passes nothing, writes nothing and leaves the clock
-pub pass-number : (c : Clock) (n room : ℕ) → (pass c n room).number ≡ pass_refusal c n room
+pub pass_number : (c : Clock) (n room : ℕ) → (pass c n room).number ≡ pass_refusal c n room
 unfolding pass
-pass-number c n room = picked (λ (p : Passed). p.number) (eqb (pass_refusal c n room) 0) _ _ ∙ zero_or (pass_refusal c n room) (eqb (pass_refusal c n room) 0) refl
+pass_number c n room = picked (λ (p : Passed). p.number) (eqb (pass_refusal c n room) 0) _ _ ∙ zero_or (pass_refusal c n room) (eqb (pass_refusal c n room) 0) refl

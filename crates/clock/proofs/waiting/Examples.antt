@@ -18,9 +18,9 @@ use Rattle.clock.specs.Setting.{date_fits, time_lines, strobe_fits, strobe_lines
 use Rattle.clock.specs.Time.{days_in, instant}
 use Rattle.clock.specs.Waiting.{records}
 use Rattle.clock.specs.Sources.{Ready, least_of, marks, past_of, all_past}
-use Rattle.clock.proofs.time.Laws.{Proper, days-in-year}
-use Rattle.clock.proofs.falling.Laws.{gap-low, gap-high, second-rhythm, strobe-each, periodic-every}
-use Rattle.clock.proofs.waiting.Window.{none_yet, none-fall, none_before, past-ready, least_more}
+use Rattle.clock.proofs.time.Laws.{Proper, days_in_year}
+use Rattle.clock.proofs.falling.Laws.{gap_low, gap_high, second_rhythm, strobe_each, periodic_every}
+use Rattle.clock.proofs.waiting.Window.{none_yet, none_fall, none_before, past_ready, least_more}
 
 -- ---- the records, computed
 
@@ -61,10 +61,10 @@ runs (suc f) c a s n h l d t = by (leb (least_of s) n) refl t (λ r k u. runs f 
         → records c n ≡ records c a ++ more b (v ∷ rest)
     by true e u next =
         let k : least_of s ≤ n = leb-true _ _ e in
-        next (past-ready c a s h (omega arith)) k u ∙ ap (λ (rs : List ℕ). rs ++ rest) (least_more c a s h (omega arith)) ∙ append_assoc (records c a) (v ∷ []) rest
+        next (past_ready c a s h (omega arith)) k u ∙ ap (λ (rs : List ℕ). rs ++ rest) (least_more c a s h (omega arith)) ∙ append_assoc (records c a) (v ∷ []) rest
     by false e u next =
         let k : n < least_of s = leb-false _ _ e in
-        none-fall c a n l (λ j p q. none_before c a s h j p (omega arith)) ∙ sym (append-nil (records c a))
+        none_fall c a n l (λ j p q. none_before c a s h j p (omega arith)) ∙ sym (append-nil (records c a))
 
 -- ---- the page's clock: year 2004, day 1, tick 0; strobe each second at a millisecond; dividers 2000 and 2000, count 0
 
@@ -78,43 +78,43 @@ start ms = record {
   periodic = record { next = 4000000; period = 4000000 };
 }
 
-start-ready : (ms : ℕ) → 0 < ms → ms < 1000 → Ready (page_clock ms) 0 (start ms)
-start-ready ms l h =
-    let p : Proper (instant 2004 1 0) = record { year = lit≤ tt; day-low = lit≤ tt; day-high = omega (arith, days-in-year 2004); tick = lit< tt } in
+start_ready : (ms : ℕ) → 0 < ms → ms < 1000 → Ready (page_clock ms) 0 (start ms)
+start_ready ms l h =
+    let p : Proper (instant 2004 1 0) = record { year = lit≤ tt; day_low = lit≤ tt; day_high = omega (arith, days_in_year 2004); tick = lit< tt } in
     let e : ms * 10000 - 0 ≡ ms * 10000 = omega arith in
     record {
-      second = second-rhythm (instant 2004 1 0) p 10000000 (gap-high 0 10000000 0 (lit< tt) (lit≤ tt));
-      strobe = strobe-each (instant 2004 1 0) p _ (record { ms = ms }) (ms * 10000) refl h (rw e at (gap-low 0 10000000 (ms * 10000) (omega arith) (omega arith)));
-      periodic = periodic-every _ 2000 2000 0 4000000 refl (lit< tt) (lit≤ tt) (gap-high 0 4000000 0 (lit< tt) (lit≤ tt));
+      second = second_rhythm (instant 2004 1 0) p 10000000 (gap_high 0 10000000 0 (lit< tt) (lit≤ tt));
+      strobe = strobe_each (instant 2004 1 0) p _ (record { ms = ms }) (ms * 10000) refl h (rw e at (gap_low 0 10000000 (ms * 10000) (omega arith) (omega arith)));
+      periodic = periodic_every _ 2000 2000 0 4000000 refl (lit< tt) (lit≤ tt) (gap_high 0 4000000 0 (lit< tt) (lit≤ tt));
     }
 
 -- the records of 10,000,000 ticks of it, with the strobe at 200 and at 400 milliseconds
 page : (ms : ℕ) → 0 < ms → ms < 1000 → T (enough 8 (start ms) 10000000) → records (page_clock ms) 10000000 ≡ run 8 (start ms) 10000000
 page ms l h t =
-    runs 8 (page_clock ms) 0 (start ms) 10000000 (start-ready ms l h) zero-le (lit≤ tt) t ∙ ap (λ (rs : List ℕ). rs ++ run 8 (start ms) 10000000) (none_yet (page_clock ms))
+    runs 8 (page_clock ms) 0 (start ms) 10000000 (start_ready ms l h) zero-le (lit≤ tt) t ∙ ap (λ (rs : List ℕ). rs ++ run 8 (start ms) 10000000) (none_yet (page_clock ms))
 
-pub at-200 : records (page_clock 200) 10000000 ≡ 16000002 ∷ 32000001 ∷ 64000001 ∷ 80000004 ∷ []
+pub at_200 : records (page_clock 200) 10000000 ≡ 16000002 ∷ 32000001 ∷ 64000001 ∷ 80000004 ∷ []
 unfolding marks all_past past_of
-at-200 = page 200 (lit< tt) (lit< tt) tt
+at_200 = page 200 (lit< tt) (lit< tt) tt
 
-pub at-400 : records (page_clock 400) 10000000 ≡ 32000003 ∷ 64000001 ∷ 80000004 ∷ []
+pub at_400 : records (page_clock 400) 10000000 ≡ 32000003 ∷ 64000001 ∷ 80000004 ∷ []
 unfolding marks all_past past_of
-at-400 = page 400 (lit< tt) (lit< tt) tt
+at_400 = page 400 (lit< tt) (lit< tt) tt
 
 -- ---- what sets it
 
-pub page-date : given (time_lines 2004 1 0 0 0) ≡ 0
+pub page_date : given (time_lines 2004 1 0 0 0) ≡ 0
 unfolding date_fits days_in
-page-date = refl
+page_date = refl
 
-pub page-dividers : given (divider_lines (Dividers.By 2000 2000)) ≡ 0
+pub page_dividers : given (divider_lines (Dividers.By 2000 2000)) ≡ 0
 unfolding dividers_fit
-page-dividers = refl
+page_dividers = refl
 
-pub page-strobe : (ms : ℕ) → ms ≤ 999 → given (strobe_lines (StrobeAt.EachSecond ms)) ≡ 0
+pub page_strobe : (ms : ℕ) → ms ≤ 999 → given (strobe_lines (StrobeAt.EachSecond ms)) ≡ 0
 unfolding strobe_fits
-page-strobe ms h = simp (le-leb ms 999 h)
+page_strobe ms h = simp (le-leb ms 999 h)
 
-pub page-set : (ms : ℕ) → record { time = instant 2004 1 (tick_at 0 0 0 0); strobe = Strobe.EachSecond (record { ms = ms }); periodic = Periodic.Every 2000 2000 0 } ≡ page_clock ms
+pub page_set : (ms : ℕ) → record { time = instant 2004 1 (tick_at 0 0 0 0); strobe = Strobe.EachSecond (record { ms = ms }); periodic = Periodic.Every 2000 2000 0 } ≡ page_clock ms
 unfolding tick_at
-page-set ms = refl
+page_set ms = refl

@@ -8,11 +8,11 @@ use native.Mathlib.Omega.{arith}
 use borrow.Author.Tests.{le-leb, lt-leb}
 use lib.ListN.{length, get_or, take, length-append, length-take, get_or-append}
 use lib.Seq.{take-append-le, take_all, get_or_at, get_or-take, length-take-le}
-use Rattle.wire.proofs.digits.Laws.{lt-or-le}
+use Rattle.wire.proofs.digits.Laws.{lt_or_le}
 use Rattle.clock.specs.declared.clock.Clock.{Clock}
 use Rattle.clock.specs.Falling.{falls}
 use Rattle.clock.specs.Waiting.{record_of, records, listed, passed, Stands}
-use Rattle.clock.proofs.waiting.Window.{behind, split, same-records, record-one, falls_below}
+use Rattle.clock.proofs.waiting.Window.{behind, split, same_records, record_one, falls_below}
 
 -- ---- exactness
 
@@ -40,10 +40,10 @@ at_last c n i (suc s) e g h =
       front = take_all (suc i) (records c (suc n)) (omega arith);
     }
 
-pub every-record : (c : Clock) (n i : ℕ) → i < length (records c n) → At c n i
+pub every_record : (c : Clock) (n i : ℕ) → i < length (records c n) → At c n i
 unfolding records
-every-record c zero i h = absurd (omega arith)
-every-record c (suc n) i h = ⊎_elim (λ l. before l (every-record c n i l)) (λ g. at_last c n i (falls c (suc n)) refl g h) (lt-or-le i (length (records c n)))
+every_record c zero i h = absurd (omega arith)
+every_record c (suc n) i h = ⊎_elim (λ l. before l (every_record c n i l)) (λ g. at_last c n i (falls c (suc n)) refl g h) (lt_or_le i (length (records c n)))
   where
     last : List ℕ
     last = record_of (suc n) (falls c (suc n))
@@ -59,15 +59,15 @@ every-record c (suc n) i h = ⊎_elim (λ l. before l (every-record c n i l)) (�
     }
 
 -- each tick of the window on which something falls has its record
-pub every-fall : (c : Clock) (n k : ℕ) → 1 ≤ k → k ≤ n → 0 < falls c k → Stands (8 * k + falls c k) (records c n)
+pub every_fall : (c : Clock) (n k : ℕ) → 1 ≤ k → k ≤ n → 0 < falls c k → Stands (8 * k + falls c k) (records c n)
 unfolding records
-every-fall c n zero l h z = absurd (omega arith)
-every-fall c n (suc j) l h z =
+every_fall c n zero l h z = absurd (omega arith)
+every_fall c n (suc j) l h z =
     let v : ℕ = 8 * suc j + falls c (suc j) in
     let rest : List ℕ = v ∷ behind c (suc j) (n - suc j) in
     let e : records c n ≡ records c j ++ rest =
-    same-records c n (suc j + (n - suc j)) (omega arith) ∙ split c (suc j) (n - suc j)
-    ∙ ap (λ (rs : List ℕ). (records c j ++ rs) ++ behind c (suc j) (n - suc j)) (record-one (suc j) (falls c (suc j)) z)
+    same_records c n (suc j + (n - suc j)) (omega arith) ∙ split c (suc j) (n - suc j)
+    ∙ ap (λ (rs : List ℕ). (records c j ++ rs) ++ behind c (suc j) (n - suc j)) (record_one (suc j) (falls c (suc j)) z)
     ∙ append_assoc (records c j) (v ∷ []) (behind c (suc j) (n - suc j)) in
     record {
       place = length (records c j);
@@ -78,7 +78,7 @@ every-fall c n (suc j) l h z =
 -- and a record that stands in the list is that of a tick of the window on which something falls: it has the sources that fall there
 pub exact : (c : Clock) (n r : ℕ) → Stands r (records c n) → (1 ≤ r / 8) × (r / 8 ≤ n) × (0 < falls c (r / 8)) × (r ≡ 8 * (r / 8) + falls c (r / 8))
 exact c n r h =
-    let a : At c n h.place = every-record c n h.place h.within in
+    let a : At c n h.place = every_record c n h.place h.within in
     let e : r ≡ 8 * a.tick + falls c a.tick = sym h.found ∙ a.written in
     let k : r / 8 ≡ a.tick = omega (arith, falls_below c a.tick) in
     rw k (a.above, a.within, a.falling, e)
@@ -87,66 +87,66 @@ exact c n r h =
 
 longer : (c : Clock) (a b : ℕ) → a ≤ b → length (records c a) ≤ length (records c b)
 longer c a b h =
-    let e : records c b ≡ records c a ++ behind c a (b - a) = same-records c b (a + (b - a)) (omega arith) ∙ split c a (b - a) in
+    let e : records c b ≡ records c a ++ behind c a (b - a) = same_records c b (a + (b - a)) (omega arith) ∙ split c a (b - a) in
     omega (arith, ap length e ∙ length-append (records c a) (behind c a (b - a)))
 
-front_length : (c : Clock) (n i : ℕ) (h : i < length (records c n)) → length (records c (every-record c n i h).tick) ≡ suc i
-front_length c n i h = ap length (sym (every-record c n i h).front) ∙ length-take-le (suc i) (records c n) h
+front_length : (c : Clock) (n i : ℕ) (h : i < length (records c n)) → length (records c (every_record c n i h).tick) ≡ suc i
+front_length c n i h = ap length (sym (every_record c n i h).front) ∙ length-take-le (suc i) (records c n) h
 
-tick-at : (c : Clock) (n i : ℕ) (h : i < length (records c n)) → get_or (records c n) i 0 / 8 ≡ (every-record c n i h).tick
-tick-at c n i h = ap (λ (r : ℕ). r / 8) (every-record c n i h).written ∙ omega (arith, falls_below c (every-record c n i h).tick)
+tick_at_lem : (c : Clock) (n i : ℕ) (h : i < length (records c n)) → get_or (records c n) i 0 / 8 ≡ (every_record c n i h).tick
+tick_at_lem c n i h = ap (λ (r : ℕ). r / 8) (every_record c n i h).written ∙ omega (arith, falls_below c (every_record c n i h).tick)
 
 pub rising : (c : Clock) (n i j : ℕ) → i < j → j < length (records c n) → get_or (records c n) i 0 / 8 < get_or (records c n) j 0 / 8
 rising c n i j l h =
     let k : i < length (records c n) = omega arith in
     ⊎_elim
-    (λ m. rw (tick-at c n i k, tick-at c n j h) m)
-    (λ m. absurd (omega (arith, longer c (every-record c n j h).tick (every-record c n i k).tick m, front_length c n i k, front_length c n j h)))
-    (lt-or-le (every-record c n i k).tick (every-record c n j h).tick)
+    (λ m. rw (tick_at_lem c n i k, tick_at_lem c n j h) m)
+    (λ m. absurd (omega (arith, longer c (every_record c n j h).tick (every_record c n i k).tick m, front_length c n i k, front_length c n j h)))
+    (lt_or_le (every_record c n i k).tick (every_record c n j h).tick)
 
 -- so no tick has two records
 pub once : (c : Clock) (n i j : ℕ) → i < length (records c n) → j < length (records c n) → get_or (records c n) i 0 / 8 ≡ get_or (records c n) j 0 / 8 → i ≡ j
 once c n i j h k e =
     ⊎_elim
     (λ l. absurd (omega (arith, rising c n i j l k)))
-    (λ l. ⊎_elim (λ m. absurd (omega (arith, rising c n j i m h))) (λ m. omega arith) (lt-or-le j i))
-    (lt-or-le i j)
+    (λ l. ⊎_elim (λ m. absurd (omega (arith, rising c n j i m h))) (λ m. omega arith) (lt_or_le j i))
+    (lt_or_le i j)
 
 -- ---- as many as there are places
 
-pub passed-all : (c : Clock) (n room : ℕ) → length (records c n) ≤ room → passed c n room ≡ n
+pub passed_all : (c : Clock) (n room : ℕ) → length (records c n) ≤ room → passed c n room ≡ n
 unfolding passed
-passed-all c n room l = simp (le-leb (length (records c n)) room l)
+passed_all c n room l = simp (le-leb (length (records c n)) room l)
 
 module _ (c : Clock) (n room : ℕ) (z : 0 < room) (l : room < length (records c n)) where
   -- the last record listed
   abbrev last : At c n (pred room)
-  last = every-record c n (pred room) (omega arith)
+  last = every_record c n (pred room) (omega arith)
 
-  passed-full : passed c n room ≡ last.tick
+  passed_full : passed c n room ≡ last.tick
   unfolding passed
-  passed-full = simp (lt-leb (length (records c n)) room l) (tick-at c n (pred room) (omega arith))
+  passed_full = simp (lt-leb (length (records c n)) room l) (tick_at_lem c n (pred room) (omega arith))
 
-  listed-full : listed c n room ≡ records c last.tick
+  listed_full : listed c n room ≡ records c last.tick
   unfolding listed
-  listed-full = let e : room ≡ suc (pred room) = omega arith in ap (λ (k : ℕ). take k (records c n)) e ∙ last.front
+  listed_full = let e : room ≡ suc (pred room) = omega arith in ap (λ (k : ℕ). take k (records c n)) e ∙ last.front
 
 -- what a wait lists is the records of the ticks that it passes
-pub listed-passed : (c : Clock) (n room : ℕ) → 0 < room → listed c n room ≡ records c (passed c n room)
+pub listed_passed : (c : Clock) (n room : ℕ) → 0 < room → listed c n room ≡ records c (passed c n room)
 unfolding listed
-listed-passed c n room z =
+listed_passed c n room z =
     ⊎_elim
-    (λ l. listed-full c n room z l ∙ ap (records c) (sym (passed-full c n room z l)))
-    (λ g. take_all room (records c n) g ∙ ap (records c) (sym (passed-all c n room g)))
-    (lt-or-le room (length (records c n)))
+    (λ l. listed_full c n room z l ∙ ap (records c) (sym (passed_full c n room z l)))
+    (λ g. take_all room (records c n) g ∙ ap (records c) (sym (passed_all c n room g)))
+    (lt_or_le room (length (records c n)))
 
 -- it passes at most the window, and at least one tick of it
 pub passes : (c : Clock) (n room : ℕ) → 0 < room → (passed c n room ≤ n) × (0 < n → 1 ≤ passed c n room)
 passes c n room z =
     ⊎_elim
-    (λ l. rw (passed-full c n room z l) ((last c n room z l).within, λ m. (last c n room z l).above))
-    (λ g. rw (passed-all c n room g) (omega arith, λ m. m))
-    (lt-or-le room (length (records c n)))
+    (λ l. rw (passed_full c n room z l) ((last c n room z l).within, λ m. (last c n room z l).above))
+    (λ g. rw (passed_all c n room g) (omega arith, λ m. m))
+    (lt_or_le room (length (records c n)))
 
 -- it passes less than the window only if there are more records than places: then something falls behind the ticks passed, the row is full, and the last record
 -- is of the last tick passed
@@ -160,24 +160,24 @@ pub record Stops (c : Clock) (n room : ℕ) : Type 0 where
 
 pub stops : (c : Clock) (n room : ℕ) → 0 < room → passed c n room < n → Stops c n room
 unfolding listed
-stops c n room z h = ⊎_elim full (λ g. absurd (omega (arith, passed-all c n room g))) (lt-or-le room (length (records c n)))
+stops c n room z h = ⊎_elim full (λ g. absurd (omega (arith, passed_all c n room g))) (lt_or_le room (length (records c n)))
   where
     -- the first record without a place
     one_more : room < length (records c n) → At c n room
-    one_more l = every-record c n room l
+    one_more l = every_record c n room l
 
     passed_length : room < length (records c n) → length (records c (passed c n room)) ≡ room
-    passed_length l = ap length (sym (listed-passed c n room z)) ∙ length-take room (records c n) ∙ omega arith
+    passed_length l = ap length (sym (listed_passed c n room z)) ∙ length-take room (records c n) ∙ omega arith
 
     full : room < length (records c n) → Stops c n room
     full l = record {
       next = (one_more l).tick;
-      behind = ⊎_elim (λ b. b) (λ b. absurd (omega (arith, longer c (one_more l).tick (passed c n room) b, front_length c n room l, passed_length l))) (lt-or-le (passed c n room) (one_more l).tick);
+      behind = ⊎_elim (λ b. b) (λ b. absurd (omega (arith, longer c (one_more l).tick (passed c n room) b, front_length c n room l, passed_length l))) (lt_or_le (passed c n room) (one_more l).tick);
       within = (one_more l).within;
       falling = (one_more l).falling;
       full = length-take room (records c n) ∙ omega arith;
       last =
           ap (λ (r : ℕ). r / 8) (get_or-take room (records c n) (pred room) 0 (omega arith))
-          ∙ tick-at c n (pred room) (omega arith)
-          ∙ sym (passed-full c n room z l);
+          ∙ tick_at_lem c n (pred room) (omega arith)
+          ∙ sym (passed_full c n room z l);
     }

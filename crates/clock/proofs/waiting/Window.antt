@@ -14,7 +14,7 @@ use lib.ListN.{length, get_or, take, drop, set, length-append, length-set, get_o
 use lib.Seq.{take_at, take_all, set_at, drop-cons, get_or_at}
 use Rattle.wire.specs.Digits.{pick}
 use Rattle.wire.specs.Time.{ticks_of_day}
-use Rattle.wire.proofs.digits.Laws.{lt-or-le}
+use Rattle.wire.proofs.digits.Laws.{lt_or_le}
 use Rattle.clock.specs.declared.clock.Clock.{Clock}
 use Rattle.clock.specs.declared.falling.Source.{Source}
 use Rattle.clock.specs.declared.falling.Sources.{Sources}
@@ -39,8 +39,8 @@ split c a (suc j) =
     ∙ append_assoc (records c a) (behind c a j) (record_of (suc (a + j)) (falls c (suc (a + j))))
     ∙ ap (λ (k : ℕ). records c a ++ (behind c a j ++ record_of k (falls c k))) (sym (add-suc a j))
 
-pub same-records : (c : Clock) (a b : ℕ) → a ≡ b → records c a ≡ records c b
-same-records c a b e = ap (records c) e
+pub same_records : (c : Clock) (a b : ℕ) → a ≡ b → records c a ≡ records c b
+same_records c a b e = ap (records c) e
 
 -- no ticks have no records
 pub none_yet : (c : Clock) → records c 0 ≡ []
@@ -48,28 +48,28 @@ unfolding records
 none_yet c = refl
 
 -- nothing falls after tick a up to n
-pub none-fall : (c : Clock) (a n : ℕ) → a ≤ n → ((k : ℕ) → a < k → k ≤ n → falls c k ≡ 0) → records c n ≡ records c a
+pub none_fall : (c : Clock) (a n : ℕ) → a ≤ n → ((k : ℕ) → a < k → k ≤ n → falls c k ≡ 0) → records c n ≡ records c a
 unfolding records record_of
-none-fall c a zero l h = same-records c 0 a (omega arith)
-none-fall c a (suc n) l h =
+none_fall c a zero l h = same_records c 0 a (omega arith)
+none_fall c a (suc n) l h =
     ⊎_elim
     (λ m. ap (λ (s : ℕ). records c n ++ record_of (suc n) s) (h (suc n) m (omega arith)) ∙ append-nil (records c n)
-    ∙ none-fall c a n (omega arith) (λ k p q. h k p (omega arith)))
-    (λ m. same-records c (suc n) a (omega arith))
-    (lt-or-le a (suc n))
+    ∙ none_fall c a n (omega arith) (λ k p q. h k p (omega arith)))
+    (λ m. same_records c (suc n) a (omega arith))
+    (lt_or_le a (suc n))
 
-pub record-one : (k s : ℕ) → 0 < s → record_of k s ≡ (8 * k + s) ∷ []
+pub record_one : (k s : ℕ) → 0 < s → record_of k s ≡ (8 * k + s) ∷ []
 unfolding record_of
-record-one k zero h = absurd (omega arith)
-record-one k (suc s) h = refl
+record_one k zero h = absurd (omega arith)
+record_one k (suc s) h = refl
 
 -- tick f is the first after tick a on which anything falls
 pub one_more : (c : Clock) (a f : ℕ) → a < f → ((k : ℕ) → a < k → k < f → falls c k ≡ 0) → 0 < falls c f → records c f ≡ records c a ++ ((8 * f + falls c f) ∷ [])
 unfolding records
 one_more c a zero l h z = absurd (omega arith)
 one_more c a (suc f) l h z =
-    ap (λ (rs : List ℕ). rs ++ record_of (suc f) (falls c (suc f))) (none-fall c a f (omega arith) (λ k p q. h k p (omega arith)))
-    ∙ ap (λ (rs : List ℕ). records c a ++ rs) (record-one (suc f) (falls c (suc f)) z)
+    ap (λ (rs : List ℕ). rs ++ record_of (suc f) (falls c (suc f))) (none_fall c a f (omega arith) (λ k p q. h k p (omega arith)))
+    ∙ ap (λ (rs : List ℕ). records c a ++ rs) (record_one (suc f) (falls c (suc f)) z)
 
 at_most : (t : Bool) (n : ℕ) → pick t n 0 ≤ n
 at_most true n = omega arith
@@ -90,24 +90,24 @@ module _ (test : ℕ → Bool) (a m : ℕ) (s : Source) (h : Rhythm test a s) (l
       ⊎_elim
       (λ n. h.next.none m l n ∙ sym (ne_eqb s.next m (λ e. omega arith)))
       (λ n. let e : s.next ≡ m = omega arith in ap test (sym e) ∙ h.next.hit (omega arith) ∙ sym (eq-eqb _ _ e))
-      (lt-or-le m s.next)
+      (lt_or_le m s.next)
 
-  past-rhythm : Rhythm test m (past_of s m)
+  past_rhythm : Rhythm test m (past_of s m)
   unfolding past_of
-  past-rhythm =
+  past_rhythm =
       ⊎_elim
       (λ n. rw (ne_eqb s.next m (λ e. omega arith))
       (record { next = record { above = n; hit = h.next.hit; none = λ k p q. h.next.none k (omega arith) q }; again = h.again; small = h.small }))
       (λ n. let e : s.next ≡ m = omega arith in
       rw (eq-eqb s.next m e) (record { next = h.again m (ap test (sym e) ∙ h.next.hit (omega arith)); again = h.again; small = h.small }))
-      (lt-or-le m s.next)
+      (lt_or_le m s.next)
 
-least-one : (a b c : ℕ) → (a ≡ min (min a b) c) ⊎ ((b ≡ min (min a b) c) ⊎ (c ≡ min (min a b) c))
-least-one a b c =
+least_one : (a b c : ℕ) → (a ≡ min (min a b) c) ⊎ ((b ≡ min (min a b) c) ⊎ (c ≡ min (min a b) c))
+least_one a b c =
     ⊎_elim
-    (λ p. ⊎_elim (λ q. inl (omega arith)) (λ q. inr (inr (omega arith))) (lt-or-le a c))
-    (λ p. ⊎_elim (λ q. inr (inl (omega arith))) (λ q. inr (inr (omega arith))) (lt-or-le b c))
-    (lt-or-le a b)
+    (λ p. ⊎_elim (λ q. inl (omega arith)) (λ q. inr (inr (omega arith))) (lt_or_le a c))
+    (λ p. ⊎_elim (λ q. inr (inl (omega arith))) (λ q. inr (inr (omega arith))) (lt_or_le b c))
+    (lt_or_le a b)
 
 module _ (c : Clock) (a : ℕ) (s : Sources) (h : Ready c a s) where
   least_above : a < least_of s
@@ -121,32 +121,32 @@ module _ (c : Clock) (a : ℕ) (s : Sources) (h : Ready c a s) where
       simp (x, y, h.periodic.next.none k p (omega arith))
 
   module _ (d : least_of s ≤ ticks_of_day) where
-    pub marks-least : falls c (least_of s) ≡ marks s (least_of s)
+    pub marks_least : falls c (least_of s) ≡ marks s (least_of s)
     unfolding falls marks second_on strobe_on
-    marks-least =
+    marks_least =
         let x = marked _ a (least_of s) s.second h.second least_above (omega arith) d in
         let y = marked _ a (least_of s) s.strobe h.strobe least_above (omega arith) d in
         let z = marked _ a (least_of s) s.periodic h.periodic least_above (omega arith) d in
         rw (x, y, z)
 
-    pub past-ready : Ready c (least_of s) (all_past s (least_of s))
+    pub past_ready : Ready c (least_of s) (all_past s (least_of s))
     unfolding all_past
-    past-ready = record {
-      second = past-rhythm _ a (least_of s) s.second h.second least_above (omega arith) d;
-      strobe = past-rhythm _ a (least_of s) s.strobe h.strobe least_above (omega arith) d;
-      periodic = past-rhythm _ a (least_of s) s.periodic h.periodic least_above (omega arith) d;
+    past_ready = record {
+      second = past_rhythm _ a (least_of s) s.second h.second least_above (omega arith) d;
+      strobe = past_rhythm _ a (least_of s) s.strobe h.strobe least_above (omega arith) d;
+      periodic = past_rhythm _ a (least_of s) s.periodic h.periodic least_above (omega arith) d;
     }
 
-    pub least-falls : 0 < falls c (least_of s)
+    pub least_falls : 0 < falls c (least_of s)
     unfolding marks
-    least-falls =
-        rw marks-least
+    least_falls =
+        rw marks_least
         (⊎_elim (λ e. rw (eq-eqb s.second.next (least_of s) e) (omega arith))
         (⊎_elim (λ e. rw (eq-eqb s.strobe.next (least_of s) e) (omega arith)) (λ e. rw (eq-eqb s.periodic.next (least_of s) e) (omega arith)))
-        (least-one s.second.next s.strobe.next s.periodic.next))
+        (least_one s.second.next s.strobe.next s.periodic.next))
 
     pub least_more : records c (least_of s) ≡ records c a ++ ((8 * least_of s + marks s (least_of s)) ∷ [])
-    least_more = one_more c a (least_of s) least_above none_before least-falls ∙ ap (λ (x : ℕ). records c a ++ ((8 * least_of s + x) ∷ [])) marks-least
+    least_more = one_more c a (least_of s) least_above none_before least_falls ∙ ap (λ (x : ℕ). records c a ++ ((8 * least_of s + x) ∷ [])) marks_least
 
 -- ---- the loop: a is the tick of the last record, the records up to it stand in the row, and s has what falls next
 
@@ -181,9 +181,9 @@ held_more c n row₀ row s a i d l m h =
     let v : ℕ = 8 * least_of s + marks s (least_of s) in
     let k : least_of s ≤ ticks_of_day = omega arith in
     let e : records c (least_of s) ≡ records c a ++ (v ∷ []) = least_more c a s h.ready k in
-    let f : falls c (least_of s) ≡ marks s (least_of s) = marks-least c a s h.ready k in
+    let f : falls c (least_of s) ≡ marks s (least_of s) = marks_least c a s h.ready k in
     record {
-      ready = past-ready c a s h.ready k;
+      ready = past_ready c a s h.ready k;
       within = m;
       room = omega (arith, h.same);
       same = length-set row i v ∙ h.same;
@@ -208,10 +208,10 @@ pub record Filled (c : Clock) (n : ℕ) (row₀ row : List ℕ) (p i : ℕ) : Ty
   pub filled : row ≡ records c p ++ drop i row₀
 
 -- nothing more falls in the window
-pub filled-all : (c : Clock) (n : ℕ) (row₀ row : List ℕ) (s : Sources) (a i : ℕ) → Held c n row₀ row s a i → n < least_of s → Filled c n row₀ row n i
+pub filled_all : (c : Clock) (n : ℕ) (row₀ row : List ℕ) (s : Sources) (a i : ℕ) → Held c n row₀ row s a i → n < least_of s → Filled c n row₀ row n i
 unfolding listed passed
-filled-all c n row₀ row s a i h l =
-    let e : records c n ≡ records c a = none-fall c a n h.within (λ k p q. none_before c a s h.ready k p (omega arith)) in
+filled_all c n row₀ row s a i h l =
+    let e : records c n ≡ records c a = none_fall c a n h.within (λ k p q. none_before c a s h.ready k p (omega arith)) in
     let len : length (records c n) ≡ i = ap length e ∙ h.count in
     record {
       within = omega arith;
@@ -222,15 +222,15 @@ filled-all c n row₀ row s a i h l =
     }
 
 -- the row is full, and more falls in the window
-pub filled-full : (c : Clock) (n : ℕ) (row₀ row : List ℕ) (s : Sources) (a i : ℕ) → 0 < length row₀ → n ≤ ticks_of_day
+pub filled_full : (c : Clock) (n : ℕ) (row₀ row : List ℕ) (s : Sources) (a i : ℕ) → 0 < length row₀ → n ≤ ticks_of_day
     → Held c n row₀ row s a i → length row ≤ i → least_of s ≤ n → Filled c n row₀ row a i
 unfolding listed passed
-filled-full c n row₀ row s a i z d h f l =
+filled_full c n row₀ row s a i z d h f l =
     let full : i ≡ length row₀ = omega (arith, h.room, h.same) in
     let m : ℕ = least_of s in
     let rest : List ℕ = (8 * m + marks s m) ∷ behind c m (n - m) in
     let e : records c n ≡ records c a ++ rest =
-    same-records c n (m + (n - m)) (omega arith) ∙ split c m (n - m) ∙ ap (λ (rs : List ℕ). rs ++ behind c m (n - m)) (least_more c a s h.ready (omega arith))
+    same_records c n (m + (n - m)) (omega arith) ∙ split c m (n - m) ∙ ap (λ (rs : List ℕ). rs ++ behind c m (n - m)) (least_more c a s h.ready (omega arith))
     ∙ append_assoc (records c a) ((8 * m + marks s m) ∷ []) (behind c m (n - m)) in
     let len : length (records c n) ≡ length (records c a) + length rest = ap length e ∙ length-append (records c a) rest in
     let at : get_or (records c n) (pred (length row₀)) 0 ≡ get_or (records c a) (pred i) 0 =

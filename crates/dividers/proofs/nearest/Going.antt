@@ -7,12 +7,12 @@ use mathlib.Core.Logic.{⊎_elim}
 use native.Mathlib.Nat.{mul-le-mul, mul_comm, le_trans, le_refl}
 use native.Mathlib.Omega.{arith}
 use Rattle.wire.specs.Digits.{pick}
-use Rattle.wire.proofs.digits.Laws.{lt-or-le}
+use Rattle.wire.proofs.digits.Laws.{lt_or_le}
 use Rattle.dividers.specs.declared.pairs.Pair.{Pair}
 use Rattle.dividers.specs.Pairs.{pair, lawful, product, distance}
 use Rattle.dividers.specs.Nearest.{before, with_n1, nearest, Begins}
-use Rattle.dividers.proofs.pairs.Laws.{Within, within, is_lawful, turned, rank, by-distance, by-n1, rank-distance}
-use Rattle.dividers.proofs.nearest.Laws.{sooner, row_fits, row-n1, row-least, least-is}
+use Rattle.dividers.proofs.pairs.Laws.{Within, within, is_lawful, turned, rank, by_distance, by_n1, rank_distance}
+use Rattle.dividers.proofs.nearest.Laws.{sooner, row_fits, row_n1, row_least, least_is}
 
 -- with every n1 before this one met: the best is a lawful pair, and none that was met is exact or comes before it
 pub record Met (wanted n1 : ℕ) (best : Pair) : Type 0 where
@@ -30,12 +30,12 @@ module _ (wanted : ℕ) (most : wanted ≤ 429483622500) where
   -- THE FIRST N1
 
   -- none is smaller than 2
-  pub from-two : Begins wanted 2
-  from-two = record { low = omega arith; high = omega arith; further = λ q h l. absurd (let w = within q h in omega arith) }
+  pub from_two : Begins wanted 2
+  from_two = record { low = omega arith; high = omega arith; further = λ q h l. absurd (let w = within q h in omega arith) }
 
   -- with a smaller one the largest n2 stays below the wanted period, and further below
-  pub from-quotient : 2 ≤ wanted / 6553500 → Begins wanted (wanted / 6553500)
-  from-quotient g = record { low = g; high = omega arith; further = further }
+  pub from_quotient : 2 ≤ wanted / 6553500 → Begins wanted (wanted / 6553500)
+  from_quotient g = record { low = g; high = omega arith; further = further }
     where
       further : (q : Pair) → lawful q ≡ true → q.n1 < wanted / 6553500 → distance wanted (pair (wanted / 6553500) 65535) < distance wanted q
       further q h l =
@@ -49,7 +49,7 @@ module _ (wanted : ℕ) (most : wanted ≤ 429483622500) where
         low = f.low;
         fits = h;
         from = le_refl n1;
-        none = λ q l s. let d = f.further q l s in (omega arith, by-distance wanted (pair n1 65535) q (within (pair n1 65535) h) (within q l) d);
+        none = λ q l s. let d = f.further q l s in (omega arith, by_distance wanted (pair n1 65535) q (within (pair n1 65535) h) (within q l) d);
       }
 
   -- A TURN
@@ -62,25 +62,25 @@ module _ (wanted : ℕ) (most : wanted ≤ 429483622500) where
     next_fits : lawful next ≡ true
     next_fits = row_fits wanted n1 g.low high
 
-    next-n1 : next.n1 ≡ n1
-    next-n1 = row-n1 wanted n1 g.low high
+    next_n1 : next.n1 ≡ n1
+    next_n1 = row_n1 wanted n1 g.low high
 
     -- an exact pair: none with a smaller n1 is exact
     pub exact : distance wanted (with_n1 wanted n1) ≡ 0 → with_n1 wanted n1 ≡ nearest wanted
-    exact z = least-is wanted next next_fits least
+    exact z = least_is wanted next next_fits least
       where
         -- an exact pair has this n1 or a larger one
-        not-before : (q : Pair) → lawful q ≡ true → distance wanted q ≤ 0 → next.n1 ≤ q.n1
-        not-before q l s = ⊎_elim (λ (t : q.n1 < n1). absurd (let d = (g.none q l t).0 in omega arith)) (λ (t : n1 ≤ q.n1). omega (arith, next-n1)) (lt-or-le q.n1 n1)
+        not_before : (q : Pair) → lawful q ≡ true → distance wanted q ≤ 0 → next.n1 ≤ q.n1
+        not_before q l s = ⊎_elim (λ (t : q.n1 < n1). absurd (let d = (g.none q l t).0 in omega arith)) (λ (t : n1 ≤ q.n1). omega (arith, next_n1)) (lt_or_le q.n1 n1)
 
         least : (q : Pair) → lawful q ≡ true → rank wanted next ≤ rank wanted q
         least q l =
             let a = within next next_fits in
             let b = within q l in
             ⊎_elim
-            (λ (s : 0 < distance wanted q). by-distance wanted next q a b (omega arith))
-            (λ (s : distance wanted q ≤ 0). by-n1 wanted next q a b (omega arith) (not-before q l s))
-            (lt-or-le 0 (distance wanted q))
+            (λ (s : 0 < distance wanted q). by_distance wanted next q a b (omega arith))
+            (λ (s : distance wanted q ≤ 0). by_n1 wanted next q a b (omega arith) (not_before q l s))
+            (lt_or_le 0 (distance wanted q))
 
     -- no exact pair: of it and the best, the one that comes before the other goes on
     pub goes_on_lem : 0 < distance wanted (with_n1 wanted n1) → Met wanted (n1 + 1) (pick (before wanted (with_n1 wanted n1) best) (with_n1 wanted n1) best)
@@ -88,7 +88,7 @@ module _ (wanted : ℕ) (most : wanted ≤ 429483622500) where
         record {
           low = omega (arith, g.low);
           fits = either (λ (p : Pair). lawful p ≡ true) t next_fits g.fits;
-          from = either (λ (p : Pair). p.n1 ≤ n1 + 1) t (omega (arith, next-n1)) (omega (arith, g.from));
+          from = either (λ (p : Pair). p.n1 ≤ n1 + 1) t (omega (arith, next_n1)) (omega (arith, g.from));
           none = none;
         }
       where
@@ -105,9 +105,9 @@ module _ (wanted : ℕ) (most : wanted ≤ 429483622500) where
         none q l s =
             ⊎_elim (λ (u : q.n1 < n1). ((g.none q l u).0, le_trans least.1 (g.none q l u).1))
             (λ (u : n1 ≤ q.n1).
-            let k = row-least wanted n1 g.low high q l (omega arith) in
-            (let d = rank-distance wanted next q (within next next_fits) (within q l) k in omega (arith, z), le_trans least.0 k))
-            (lt-or-le q.n1 n1)
+            let k = row_least wanted n1 g.low high q l (omega arith) in
+            (let d = rank_distance wanted next q (within next next_fits) (within q l) k in omega (arith, z), le_trans least.0 k))
+            (lt_or_le q.n1 n1)
 
   -- WHERE IT STOPS
 
@@ -120,7 +120,7 @@ module _ (wanted : ℕ) (most : wanted ≤ 429483622500) where
 
     -- 100 × n1 × n1 is at least as far above the wanted period as the best pair
     pub stops : wanted + distance wanted best ≤ 100 * (n1 * n1) → best ≡ nearest wanted
-    stops h = least-is wanted best g.fits least
+    stops h = least_is wanted best g.fits least
       where
         -- neither divider was met
         unmet : (q : Pair) → lawful q ≡ true → n1 ≤ q.n1 → n1 ≤ q.n2 → rank wanted best ≤ rank wanted q
@@ -131,25 +131,25 @@ module _ (wanted : ℕ) (most : wanted ≤ 429483622500) where
             omega (arith, g.from)
 
         -- the other way round it was met
-        turned-met : (q : Pair) → lawful q ≡ true → n1 ≤ q.n1 → q.n2 < n1 → rank wanted best ≤ rank wanted q
-        turned-met q l s t =
+        turned_met : (q : Pair) → lawful q ≡ true → n1 ≤ q.n1 → q.n2 < n1 → rank wanted best ≤ rank wanted q
+        turned_met q l s t =
             le_trans (g.none (pair q.n2 q.n1) (turned q l) t).1
-            (by-n1 wanted (pair q.n2 q.n1) q (within (pair q.n2 q.n1) (turned q l)) (within q l) (mul_comm q.n2 q.n1) (omega arith))
+            (by_n1 wanted (pair q.n2 q.n1) q (within (pair q.n2 q.n1) (turned q l)) (within q l) (mul_comm q.n2 q.n1) (omega arith))
 
         least : (q : Pair) → lawful q ≡ true → rank wanted best ≤ rank wanted q
         least q l =
             ⊎_elim
             (λ (s : q.n1 < n1). (g.none q l s).1)
-            (λ (s : n1 ≤ q.n1). ⊎_elim (turned-met q l s) (unmet q l s) (lt-or-le q.n2 n1))
-            (lt-or-le q.n1 n1)
+            (λ (s : n1 ≤ q.n1). ⊎_elim (turned_met q l s) (unmet q l s) (lt_or_le q.n2 n1))
+            (lt_or_le q.n1 n1)
 
     -- past 65,535 it has always stopped: the best pair is as near as the one with the longest period
-    pub goes-within : n1 ≤ 65536 → 100 * (n1 * n1) < wanted + distance wanted best → n1 ≤ 65535
-    goes-within l h = ⊎_elim (λ (s : n1 < 65536). omega arith) (λ (s : 65536 ≤ n1). absurd (last s)) (lt-or-le n1 65536)
+    pub goes_within : n1 ≤ 65536 → 100 * (n1 * n1) < wanted + distance wanted best → n1 ≤ 65535
+    goes_within l h = ⊎_elim (λ (s : n1 < 65536). omega arith) (λ (s : 65536 ≤ n1). absurd (last s)) (lt_or_le n1 65536)
       where
         last : 65536 ≤ n1 → ⊥
         last s =
             let m : 65536 * 65536 ≤ n1 * n1 = mul-le-mul {n₁ = 65536} {m₁ = 65536} {n₂ = n1} {m₂ = n1} s s in
             let q : lawful (pair 65535 65535) ≡ true = is_lawful 65535 65535 (omega arith) (omega arith) (omega arith) (omega arith) in
-            let d = rank-distance wanted best (pair 65535 65535) bounds (within (pair 65535 65535) q) (g.none (pair 65535 65535) q (omega arith)).1 in
+            let d = rank_distance wanted best (pair 65535 65535) bounds (within (pair 65535 65535) q) (g.none (pair 65535 65535) q (omega arith)).1 in
             omega arith

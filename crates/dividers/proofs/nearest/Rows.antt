@@ -5,12 +5,12 @@ use mathlib.Core.Path.{◌≡◌, refl, sym, ap, subst, ◌∙◌}
 use mathlib.Core.Logic.{⊎_elim}
 use native.Mathlib.Nat.{mul-le-mul_left, mul-suc, mul_comm, mul_assoc, div-mul-le_self, lt-div-mul-add, le-div_iff_mul-le, div-lt_iff_lt-mul, le_refl}
 use native.Mathlib.Omega.{arith}
-use Rattle.wire.proofs.digits.Laws.{lt-or-le}
+use Rattle.wire.proofs.digits.Laws.{lt_or_le}
 use Rattle.dividers.specs.declared.pairs.Pair.{Pair}
 use Rattle.dividers.specs.Pairs.{pair, distance}
 use Rattle.dividers.specs.Nearest.{with_n1}
-use Rattle.dividers.proofs.pairs.Laws.{Within, within, is_lawful, rank, by-distance}
-use Rattle.dividers.proofs.nearest.Laws.{row-only}
+use Rattle.dividers.proofs.pairs.Laws.{Within, within, is_lawful, rank, by_distance}
+use Rattle.dividers.proofs.nearest.Laws.{row_only}
 
 module _ (wanted n1 : ℕ) (a : 2 ≤ n1) (b : n1 ≤ 65535) where
   -- what n2 may be
@@ -25,10 +25,10 @@ module _ (wanted n1 : ℕ) (a : 2 ≤ n1) (b : n1 ≤ 65535) where
   bounds m s = within (pair n1 m) (is_lawful n1 m a b s.0 s.1)
 
   -- an n2 that is compared with each other one by whether that is below it or above
-  no-worse : (m : ℕ) → ((n : ℕ) → Divider n → n < m → n1 * n + n1 ≤ n1 * m → rank wanted (pair n1 m) ≤ rank wanted (pair n1 n))
+  no_worse : (m : ℕ) → ((n : ℕ) → Divider n → n < m → n1 * n + n1 ≤ n1 * m → rank wanted (pair n1 m) ≤ rank wanted (pair n1 n))
       → ((n : ℕ) → Divider n → m < n → n1 * m + n1 ≤ n1 * n → rank wanted (pair n1 m) ≤ rank wanted (pair n1 n))
       → (n : ℕ) → Divider n → rank wanted (pair n1 m) ≤ rank wanted (pair n1 n)
-  no-worse m below above n s = ⊎_elim (λ l. below n s l (more n m l)) (λ g. ⊎_elim (λ l. above n s l (more m n l)) (λ h. same (omega arith)) (lt-or-le m n)) (lt-or-le n m)
+  no_worse m below above n s = ⊎_elim (λ l. below n s l (more n m l)) (λ g. ⊎_elim (λ l. above n s l (more m n l)) (λ h. same (omega arith)) (lt_or_le m n)) (lt_or_le n m)
     where
       same : m ≡ n → rank wanted (pair n1 m) ≤ rank wanted (pair n1 n)
       same e = subst (λ (k : ℕ). rank wanted (pair n1 m) ≤ rank wanted (pair n1 k)) e (le_refl (rank wanted (pair n1 m)))
@@ -38,27 +38,27 @@ module _ (wanted n1 : ℕ) (a : 2 ≤ n1) (b : n1 ≤ 65535) where
   -- too little wanted: 2
   low : (x : ℕ) → x + 1 ≡ wanted + 50 * n1 → x < 2 * (100 * n1) → (n : ℕ) → Divider n → rank wanted (pair n1 2) ≤ rank wanted (pair n1 n)
   low x e h =
-      no-worse 2 (λ n s l k. absurd (let t = s.0 in omega arith))
-      (λ n s l k. by-distance wanted (pair n1 2) (pair n1 n) (bounds 2 (omega arith)) (bounds n s) (omega arith))
+      no_worse 2 (λ n s l k. absurd (let t = s.0 in omega arith))
+      (λ n s l k. by_distance wanted (pair n1 2) (pair n1 n) (bounds 2 (omega arith)) (bounds n s) (omega arith))
 
   -- too much wanted: 65,535
   high : (x : ℕ) → x + 1 ≡ wanted + 50 * n1 → 65536 * (100 * n1) ≤ x → (n : ℕ) → Divider n → rank wanted (pair n1 65535) ≤ rank wanted (pair n1 n)
   high x e h =
-      no-worse 65535 (λ n s l k. by-distance wanted (pair n1 65535) (pair n1 n) (bounds 65535 (omega arith)) (bounds n s) (omega arith))
+      no_worse 65535 (λ n s l k. by_distance wanted (pair n1 65535) (pair n1 n) (bounds 65535 (omega arith)) (bounds n s) (omega arith))
       (λ n s l k. absurd (let t = s.1 in omega arith))
 
   -- between them: a half above or less, or less than a half below
   between : (x m : ℕ) → x + 1 ≡ wanted + 50 * n1 → Divider m → 100 * (n1 * m) ≤ x → x < 100 * (n1 * m) + 100 * n1
       → (n : ℕ) → Divider n → rank wanted (pair n1 m) ≤ rank wanted (pair n1 n)
   between x m e t f g =
-      no-worse m (λ n s l k. by-distance wanted (pair n1 m) (pair n1 n) (bounds m t) (bounds n s) (omega arith))
+      no_worse m (λ n s l k. by_distance wanted (pair n1 m) (pair n1 n) (bounds m t) (bounds n s) (omega arith))
       (λ n s l k. let d : distance wanted (pair n1 m) ≤ distance wanted (pair n1 n) = omega arith in omega arith)
 
   -- so it is the n2 of the pair that comes before the others
   only : (m : ℕ) → Divider m → ((n : ℕ) → Divider n → rank wanted (pair n1 m) ≤ rank wanted (pair n1 n)) → m ≡ (with_n1 wanted n1).n2
   only m s least =
       ap (λ (p : Pair). p.n2)
-      (row-only wanted n1 a b (pair n1 m) (is_lawful n1 m a b s.0 s.1) refl
+      (row_only wanted n1 a b (pair n1 m) (is_lawful n1 m a b s.0 s.1) refl
       (λ q h e. let w = within q h in subst (λ (k : ℕ). rank wanted (pair n1 m) ≤ rank wanted (pair k q.n2)) (sym e) (least q.n2 (w.low2, w.high2))))
 
   -- THE QUOTIENT
@@ -70,8 +70,8 @@ module _ (wanted n1 : ℕ) (a : 2 ≤ n1) (b : n1 ≤ 65535) where
     pub held_high : 65535 < x / (100 * n1) → 65535 ≡ (with_n1 wanted n1).n2
     held_high h = only 65535 (omega arith) (high x e ((le-div_iff_mul-le (omega arith)).0 h))
 
-    pub not-held : 2 ≤ x / (100 * n1) → x / (100 * n1) ≤ 65535 → x / (100 * n1) ≡ (with_n1 wanted n1).n2
-    not-held g h =
+    pub not_held : 2 ≤ x / (100 * n1) → x / (100 * n1) ≤ 65535 → x / (100 * n1) ≡ (with_n1 wanted n1).n2
+    not_held g h =
         only m (g, h)
         (between x m e (g, h) (subst (λ (k : ℕ). k ≤ x) unit (div-mul-le_self x (100 * n1))) (subst (λ (k : ℕ). x < k + 100 * n1) unit (lt-div-mul-add (omega arith))))
       where

@@ -9,8 +9,8 @@ use Rattle.dividers.specs.declared.pairs.Pair.{Pair}
 use Rattle.dividers.specs.Pairs.{pair, lawful, product, distance}
 
 -- what two dividers make at most
-pub product-most : (n1 n2 : ℕ) → n1 ≤ 65535 → n2 ≤ 65535 → n1 * n2 ≤ 4294836225
-product-most n1 n2 a b = mul-le-mul {n₁ = n1} {m₁ = n2} {n₂ = 65535} {m₂ = 65535} a b
+pub product_most : (n1 n2 : ℕ) → n1 ≤ 65535 → n2 ≤ 65535 → n1 * n2 ≤ 4294836225
+product_most n1 n2 a b = mul-le-mul {n₁ = n1} {m₁ = n2} {n₂ = 65535} {m₂ = 65535} a b
 
 -- what a lawful pair is within
 pub record Within (p : Pair) : Type 0 where
@@ -30,7 +30,7 @@ within p h =
       low2 = w.1.1.0;
       high2 = w.1.1.1;
       least = mul-le-mul {n₁ = 2} {m₁ = 2} {n₂ = p.n1} {m₂ = p.n2} w.0 w.1.1.0;
-      most = product-most p.n1 p.n2 w.1.0 w.1.1.1;
+      most = product_most p.n1 p.n2 w.1.0 w.1.1.1;
     }
 
 pub is_lawful : (n1 n2 : ℕ) → 2 ≤ n1 → n1 ≤ 65535 → 2 ≤ n2 → n2 ≤ 65535 → lawful (pair n1 n2) ≡ true
@@ -46,33 +46,33 @@ rank wanted p = (distance wanted p * 4294967296 + product p) * 65536 + p.n1
 
 module _ (wanted : ℕ) (p q : Pair) (a : Within p) (b : Within q) where
   -- a smaller distance, a smaller rank
-  pub by-distance : distance wanted p < distance wanted q → rank wanted p ≤ rank wanted q
-  by-distance h = omega arith
+  pub by_distance : distance wanted p < distance wanted q → rank wanted p ≤ rank wanted q
+  by_distance h = omega arith
 
   -- of equal distances, by the product
   pub by_product : distance wanted p ≡ distance wanted q → product p < product q → rank wanted p ≤ rank wanted q
   by_product e h = omega arith
 
   -- of equal products, by n1
-  pub by-n1 : product p ≡ product q → p.n1 ≤ q.n1 → rank wanted p ≤ rank wanted q
-  by-n1 e h = omega arith
+  pub by_n1 : product p ≡ product q → p.n1 ≤ q.n1 → rank wanted p ≤ rank wanted q
+  by_n1 e h = omega arith
 
   -- and the other way round
-  pub rank-distance : rank wanted p ≤ rank wanted q → distance wanted p ≤ distance wanted q
-  rank-distance h = omega arith
+  pub rank_distance : rank wanted p ≤ rank wanted q → distance wanted p ≤ distance wanted q
+  rank_distance h = omega arith
 
-  pub rank-product : rank wanted p ≤ rank wanted q → distance wanted q ≡ distance wanted p → product p ≤ product q
-  rank-product h e = omega arith
+  pub rank_product : rank wanted p ≤ rank wanted q → distance wanted q ≡ distance wanted p → product p ≤ product q
+  rank_product h e = omega arith
 
-  pub rank-n1 : rank wanted p ≤ rank wanted q → product q ≡ product p → p.n1 ≤ q.n1
-  rank-n1 h e = omega arith
+  pub rank_n1 : rank wanted p ≤ rank wanted q → product q ≡ product p → p.n1 ≤ q.n1
+  rank_n1 h e = omega arith
 
   -- of one product and one n1 there is one pair
-  pub one-pair : product p ≡ product q → p.n1 ≡ q.n1 → p ≡ q
-  one-pair e f =
+  pub one_pair : product p ≡ product q → p.n1 ≡ q.n1 → p ≡ q
+  one_pair e f =
       ap₂ pair f
       (eq_of_mul-eq-mul_left p.n1 (omega arith) p.n2 q.n2 (e ∙ ap (λ (n : ℕ). n * q.n2) (sym f)))
 
   -- and so of one rank
   pub one_rank : rank wanted p ≤ rank wanted q → rank wanted q ≤ rank wanted p → p ≡ q
-  one_rank g h = one-pair (omega arith) (omega arith)
+  one_rank g h = one_pair (omega arith) (omega arith)

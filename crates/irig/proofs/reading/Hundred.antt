@@ -11,9 +11,9 @@ use Rattle.irig.specs.Reading.{fits, all_fit, clear, spares_clear, share, field_
 use Rattle.irig.proofs.table.Laws.{sum_same, all_same}
 
 -- the same fields have the same digits
-pub digits-alike : (v w : Field → ℕ) → ((f : Field) → v f ≡ w f) → digits_of v ≡ digits_of w
+pub digits_alike : (v w : Field → ℕ) → ((f : Field) → v f ≡ w f) → digits_of v ≡ digits_of w
 unfolding digits_of
-digits-alike v w e =
+digits_alike v w e =
     cc (
       e Field.day_hundreds,
       e Field.day_tens,
@@ -28,28 +28,28 @@ digits-alike v w e =
 
 -- two rows with the same hundred elements in front
 module _ (a b : List ℕ) (l : 100 ≤ length a) (m : 100 ≤ length b) (e : (j : ℕ) → j < 100 → get_or a j 0 ≡ get_or b j 0) where
-  same-fit : all_fit a ≡ all_fit b
+  same_fit : all_fit a ≡ all_fit b
   unfolding all_fit
-  same-fit = all_same 100 (λ (j : ℕ). fits (at j) (get_or a j 0)) (λ (j : ℕ). fits (at j) (get_or b j 0)) (λ j k. ap (fits (at j)) (e j k))
+  same_fit = all_same 100 (λ (j : ℕ). fits (at j) (get_or a j 0)) (λ (j : ℕ). fits (at j) (get_or b j 0)) (λ j k. ap (fits (at j)) (e j k))
 
-  same-clear : spares_clear a ≡ spares_clear b
+  same_clear : spares_clear a ≡ spares_clear b
   unfolding spares_clear
-  same-clear = all_same 100 (λ (j : ℕ). clear (at j) (get_or a j 0)) (λ (j : ℕ). clear (at j) (get_or b j 0)) (λ j k. ap (clear (at j)) (e j k))
+  same_clear = all_same 100 (λ (j : ℕ). clear (at j) (get_or a j 0)) (λ (j : ℕ). clear (at j) (get_or b j 0)) (λ j k. ap (clear (at j)) (e j k))
 
-  same-field : (f : Field) → field_in a f ≡ field_in b f
+  same_field : (f : Field) → field_in a f ≡ field_in b f
   unfolding field_in
-  same-field f = sum_same 100 (λ (j : ℕ). share f (at j) (get_or a j 0)) (λ (j : ℕ). share f (at j) (get_or b j 0)) (λ j k. ap (share f (at j)) (e j k))
+  same_field f = sum_same 100 (λ (j : ℕ). share f (at j) (get_or a j 0)) (λ (j : ℕ). share f (at j) (get_or b j 0)) (λ j k. ap (share f (at j)) (e j k))
 
   same_digits : digits_in a ≡ digits_in b
-  same_digits = digits-alike (field_in a) (field_in b) same-field
+  same_digits = digits_alike (field_in a) (field_in b) same_field
 
-  same-refusal : read_refusal a ≡ read_refusal b
+  same_refusal : read_refusal a ≡ read_refusal b
   unfolding read_refusal
-  same-refusal = simp (le-ltb (length a) 100 l, le-ltb (length b) 100 m, same-fit, same-clear, same_digits, same-field Field.binary_seconds)
+  same_refusal = simp (le-ltb (length a) 100 l, le-ltb (length b) 100 m, same_fit, same_clear, same_digits, same_field Field.binary_seconds)
 
   pub read_same : read_frame a ≡ read_frame b
   unfolding read_frame
-  read_same = cc (same-refusal, same_digits)
+  read_same = cc (same_refusal, same_digits)
 
-pub only-hundred : (row : List ℕ) → 100 ≤ length row → read_frame (take 100 row) ≡ read_frame row
-only-hundred row l = read_same (take 100 row) row (rw (length-take-le 100 row l) (omega arith)) l (λ j k. get_or-take 100 row j 0 k)
+pub only_hundred : (row : List ℕ) → 100 ≤ length row → read_frame (take 100 row) ≡ read_frame row
+only_hundred row l = read_same (take 100 row) row (rw (length-take-le 100 row l) (omega arith)) l (λ j k. get_or-take 100 row j 0 k)

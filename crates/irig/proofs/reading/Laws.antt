@@ -16,22 +16,22 @@ use Rattle.wire.specs.Digits.{pick, num, below, packed, unpacked}
 use Rattle.wire.specs.Time.{without_fraction}
 use Rattle.wire.specs.Words.{decimal, day_in, tick_in, time_read, read_words, read_digits}
 use Rattle.wire.specs.declared.words.TimeRead.{TimeRead}
-use Rattle.wire.proofs.digits.Laws.{unpack-packed, and-true, lt-or-le, clash}
-use Rattle.wire.proofs.words.Laws.{read-by-digits, read-bad, read-outside, read_done, whole-second}
+use Rattle.wire.proofs.digits.Laws.{unpack_packed, and_true, lt_or_le, clash}
+use Rattle.wire.proofs.words.Laws.{read_by_digits, read_bad, read_outside, read_done, whole_second}
 use Rattle.irig.specs.declared.reading.Summed.{Summed}
 use Rattle.irig.specs.Table.{Field, Element, field_number, table, at, sum_to, all_to, field_shift, shift_of}
 use Rattle.irig.specs.Reading.{fits, all_fit, clear, spares_clear, share, field_in, digits_of, digits_in, digits_in_range, read_refusal, read_frame, weighed, weighed_to, scanned, words_in}
-use Rattle.irig.proofs.table.Laws.{shift_is, fit_at, field_to, field-whole, field-small, bit-low, together, bounds, together-small}
+use Rattle.irig.proofs.table.Laws.{shift_is, fit_at, field_to, field_whole, field_small, bit_low, together, bounds, together_small}
 
 -- ALL FIELDS TOGETHER
 
-together-both : (v w : Field → ℕ) → together v + together w ≡ together (λ (f : Field). v f + w f)
+together_both : (v w : Field → ℕ) → together v + together w ≡ together (λ (f : Field). v f + w f)
 unfolding together
-together-both v w = omega arith
+together_both v w = omega arith
 
-together-same : (v w : Field → ℕ) → ((f : Field) → v f ≡ w f) → together v ≡ together w
+together_same : (v w : Field → ℕ) → ((f : Field) → v f ≡ w f) → together v ≡ together w
 unfolding together
-together-same v w e =
+together_same v w e =
     cc (e Field.second_units, e Field.second_tens, e Field.minute_units, e Field.minute_tens, e Field.hour_units, e Field.hour_tens, e Field.day_units, e Field.day_tens, e Field.day_hundreds, e Field.binary_seconds)
 
 -- the spare elements
@@ -58,30 +58,30 @@ one_field Field.day_tens x = omega arith
 one_field Field.day_hundreds x = omega arith
 one_field Field.binary_seconds x = omega arith
 
-weighed-is : (t : Element) (e : ℕ) → weighed t e ≡ together (λ (f : Field). share f t e) + spare_share t e * 2 ^ 53
+weighed_is : (t : Element) (e : ℕ) → weighed t e ≡ together (λ (f : Field). share f t e) + spare_share t e * 2 ^ 53
 unfolding weighed together share spare_share
-weighed-is Element.marker e = refl
-weighed-is Element.spare e = omega arith
-weighed-is (Element.bit f i) e = shifted e (field_shift f) i ∙ one_field f (e * 2 ^ i) ∙ omega arith
+weighed_is Element.marker e = refl
+weighed_is Element.spare e = omega arith
+weighed_is (Element.bit f i) e = shifted e (field_shift f) i ∙ one_field f (e * 2 ^ i) ∙ omega arith
 
-pub zero-sum : (a e : ℕ) → (eqb a 0 && ltb e 1) ≡ eqb (a + e) 0
-zero-sum a e =
+pub zero_sum : (a e : ℕ) → (eqb a 0 && ltb e 1) ≡ eqb (a + e) 0
+zero_sum a e =
     ⊎_elim
     (λ p. ⊎_elim
     (λ q. simp (eq-eqb a 0 (omega arith), lt-ltb e 1 q, eq-eqb (a + e) 0 (omega arith)))
     (λ q. simp (eq-eqb a 0 (omega arith), le-ltb e 1 q, ne_eqb (a + e) 0 (λ z. omega arith)))
-    (lt-or-le e 1))
+    (lt_or_le e 1))
     (λ p. simp (ne_eqb a 0 (λ z. omega arith), ne_eqb (a + e) 0 (λ z. omega arith)))
-    (lt-or-le a 1)
+    (lt_or_le a 1)
 
 below_one : (e : ℕ) → ltb e 1 ≡ eqb e 0
-below_one e = ⊎_elim (λ p. simp (lt-ltb e 1 p, eq-eqb e 0 (omega arith))) (λ q. simp (le-ltb e 1 q, ne_eqb e 0 (λ z. omega arith))) (lt-or-le e 1)
+below_one e = ⊎_elim (λ p. simp (lt-ltb e 1 p, eq-eqb e 0 (omega arith))) (λ q. simp (le-ltb e 1 q, ne_eqb e 0 (λ z. omega arith))) (lt_or_le e 1)
 
-clear-one : (a : ℕ) (t : Element) (e : ℕ) → (eqb a 0 && clear t e) ≡ eqb (a + spare_share t e) 0
+clear_one : (a : ℕ) (t : Element) (e : ℕ) → (eqb a 0 && clear t e) ≡ eqb (a + spare_share t e) 0
 unfolding clear spare_share
-clear-one a Element.marker e = and-true (eqb a 0) ∙ ap (λ (x : ℕ). eqb x 0) (let z : a ≡ a + 0 = omega arith in z)
-clear-one a Element.spare e = ap (λ (t : Bool). eqb a 0 && t) (sym (below_one e)) ∙ zero-sum a e
-clear-one a (Element.bit f i) e = and-true (eqb a 0) ∙ ap (λ (x : ℕ). eqb x 0) (let z : a ≡ a + 0 = omega arith in z)
+clear_one a Element.marker e = and_true (eqb a 0) ∙ ap (λ (x : ℕ). eqb x 0) (let z : a ≡ a + 0 = omega arith in z)
+clear_one a Element.spare e = ap (λ (t : Bool). eqb a 0 && t) (sym (below_one e)) ∙ zero_sum a e
+clear_one a (Element.bit f i) e = and_true (eqb a 0) ∙ ap (λ (x : ℕ). eqb x 0) (let z : a ≡ a + 0 = omega arith in z)
 
 three : {a b c x y z : ℕ} → a ≡ x → b ≡ y → c ≡ z → a ∷ b ∷ c ∷ 0 ∷ 0 ∷ [] ≡ x ∷ y ∷ z ∷ 0 ∷ 0 ∷ []
 three p q r = cc (p, q, r)
@@ -90,46 +90,46 @@ module _ (row : List ℕ) where
   unfoldable spares_to : ℕ → ℕ
   spares_to n = sum_to n (λ (j : ℕ). spare_share (at j) (get_or row j 0))
 
-  weighed-sum : (n : ℕ) → weighed_to row n ≡ together (λ (f : Field). field_to row f n) + spares_to n * 2 ^ 53
+  weighed_sum : (n : ℕ) → weighed_to row n ≡ together (λ (f : Field). field_to row f n) + spares_to n * 2 ^ 53
   unfolding weighed_to field_to spares_to sum_to together
-  weighed-sum zero = refl
-  weighed-sum (suc n) =
-      let i = weighed-sum n in
-      let w = weighed-is (at n) (get_or row n 0) in
-      let t = together-both (λ (f : Field). field_to row f n) (λ (f : Field). share f (at n) (get_or row n 0)) in
+  weighed_sum zero = refl
+  weighed_sum (suc n) =
+      let i = weighed_sum n in
+      let w = weighed_is (at n) (get_or row n 0) in
+      let t = together_both (λ (f : Field). field_to row f n) (λ (f : Field). share f (at n) (get_or row n 0)) in
       omega arith
 
   -- they add up to 0 exactly if each is clear
-  clear-sum : (n : ℕ) → all_to n (λ (j : ℕ). clear (at j) (get_or row j 0)) ≡ eqb (spares_to n) 0
+  clear_sum : (n : ℕ) → all_to n (λ (j : ℕ). clear (at j) (get_or row j 0)) ≡ eqb (spares_to n) 0
   unfolding spares_to sum_to all_to
-  clear-sum zero = refl
-  clear-sum (suc n) = ap (λ (t : Bool). t && clear (at n) (get_or row n 0)) (clear-sum n) ∙ clear-one (spares_to n) (at n) (get_or row n 0)
+  clear_sum zero = refl
+  clear_sum (suc n) = ap (λ (t : Bool). t && clear (at n) (get_or row n 0)) (clear_sum n) ∙ clear_one (spares_to n) (at n) (get_or row n 0)
 
   module _ (h : all_fit row ≡ true) where
     number_is : weighed_to row 100 ≡ together (field_in row) + spares_to 100 * 2 ^ 53
     number_is =
-        weighed-sum 100
-        ∙ ap (λ (x : ℕ). x + spares_to 100 * 2 ^ 53) (together-same (λ (f : Field). field_to row f 100) (field_in row) (λ f. sym (field-whole row f)))
+        weighed_sum 100
+        ∙ ap (λ (x : ℕ). x + spares_to 100 * 2 ^ 53) (together_same (λ (f : Field). field_to row f 100) (field_in row) (λ f. sym (field_whole row f)))
 
     -- 23: the number tells whether a spare element is set
-    pub spare-set : 9007199254740992 ≤ weighed_to row 100 → spares_clear row ≡ false
+    pub spare_set : 9007199254740992 ≤ weighed_to row 100 → spares_clear row ≡ false
     unfolding spares_clear
-    spare-set l =
-        let n = number_is in let t = together-small (field_in row) (field-small row h) in
-        clear-sum 100 ∙ ne_eqb (spares_to 100) 0 (λ z. let y : spares_to 100 * 2 ^ 53 ≡ 0 = ap (λ (x : ℕ). x * 2 ^ 53) z in omega arith)
+    spare_set l =
+        let n = number_is in let t = together_small (field_in row) (field_small row h) in
+        clear_sum 100 ∙ ne_eqb (spares_to 100) 0 (λ z. let y : spares_to 100 * 2 ^ 53 ≡ 0 = ap (λ (x : ℕ). x * 2 ^ 53) z in omega arith)
 
-    pub spare-clear : weighed_to row 100 < 9007199254740992 → spares_clear row ≡ true
+    pub spare_clear : weighed_to row 100 < 9007199254740992 → spares_clear row ≡ true
     unfolding spares_clear
-    spare-clear l = let n = number_is in clear-sum 100 ∙ eq-eqb (spares_to 100) 0 (omega arith)
+    spare_clear l = let n = number_is in clear_sum 100 ∙ eq-eqb (spares_to 100) 0 (omega arith)
 
     module _ (l : weighed_to row 100 < 9007199254740992) where
-      fields-alone : weighed_to row 100 ≡ together (field_in row)
-      fields-alone = let n = number_is in omega arith
+      fields_alone : weighed_to row 100 ≡ together (field_in row)
+      fields_alone = let n = number_is in omega arith
 
-      digits-small : below 16 (digits_in row) ≡ true
+      digits_small : below 16 (digits_in row) ≡ true
       unfolding below digits_of
-      digits-small =
-          let b = bounds (field_in row) (field-small row h) in
+      digits_small =
+          let b = bounds (field_in row) (field_small row h) in
           simp (
             lt-ltb (field_in row Field.day_hundreds) 16 (omega arith),
             lt-ltb (field_in row Field.day_tens) 16 (omega arith),
@@ -143,35 +143,35 @@ module _ (row : List ℕ) where
           )
 
       -- the first three words
-      hundreds-packed : weighed_to row 100 / 2 ^ 32 % 16 ≡ num 16 (0 ∷ 0 ∷ 0 ∷ field_in row Field.day_hundreds ∷ [])
+      hundreds_packed : weighed_to row 100 / 2 ^ 32 % 16 ≡ num 16 (0 ∷ 0 ∷ 0 ∷ field_in row Field.day_hundreds ∷ [])
       unfolding num together
-      hundreds-packed = let b = bounds (field_in row) (field-small row h) in let n = fields-alone in omega arith
+      hundreds_packed = let b = bounds (field_in row) (field_small row h) in let n = fields_alone in omega arith
 
-      days-packed : weighed_to row 100 / 2 ^ 16 % 65536 ≡ num 16 (field_in row Field.day_tens ∷ field_in row Field.day_units ∷ field_in row Field.hour_tens ∷ field_in row Field.hour_units ∷ [])
+      days_packed : weighed_to row 100 / 2 ^ 16 % 65536 ≡ num 16 (field_in row Field.day_tens ∷ field_in row Field.day_units ∷ field_in row Field.hour_tens ∷ field_in row Field.hour_units ∷ [])
       unfolding num together
-      days-packed = let b = bounds (field_in row) (field-small row h) in let n = fields-alone in omega arith
+      days_packed = let b = bounds (field_in row) (field_small row h) in let n = fields_alone in omega arith
 
-      minutes-packed : weighed_to row 100 % 65536 ≡ num 16 (field_in row Field.minute_tens ∷ field_in row Field.minute_units ∷ field_in row Field.second_tens ∷ field_in row Field.second_units ∷ [])
+      minutes_packed : weighed_to row 100 % 65536 ≡ num 16 (field_in row Field.minute_tens ∷ field_in row Field.minute_units ∷ field_in row Field.second_tens ∷ field_in row Field.second_units ∷ [])
       unfolding num together
-      minutes-packed = let b = bounds (field_in row) (field-small row h) in let n = fields-alone in omega arith
+      minutes_packed = let b = bounds (field_in row) (field_small row h) in let n = fields_alone in omega arith
 
-      words-packed : words_in (weighed_to row 100) ≡ packed 16 4 5 (digits_in row)
+      words_packed : words_in (weighed_to row 100) ≡ packed 16 4 5 (digits_in row)
       unfolding words_in packed digits_of num
-      words-packed =
-          three hundreds-packed days-packed minutes-packed
+      words_packed =
+          three hundreds_packed days_packed minutes_packed
 
       -- the digits in the number are the frame's
-      pub digits-read : read_words (words_in (weighed_to row 100)) ≡ read_digits (digits_in row)
+      pub digits_read : read_words (words_in (weighed_to row 100)) ≡ read_digits (digits_in row)
       unfolding digits_of
-      digits-read =
-          read-by-digits (words_in (weighed_to row 100))
-          ∙ ap (λ (ws : List ℕ). read_digits (unpacked 16 4 ws)) words-packed
-          ∙ ap read_digits (unpack-packed 16 (lit< tt) 4 5 (digits_in row) refl digits-small)
+      digits_read =
+          read_by_digits (words_in (weighed_to row 100))
+          ∙ ap (λ (ws : List ℕ). read_digits (unpacked 16 4 ws)) words_packed
+          ∙ ap read_digits (unpack_packed 16 (lit< tt) 4 5 (digits_in row) refl digits_small)
 
       -- and above them stand its binary seconds
-      pub seconds-read : weighed_to row 100 / 2 ^ 36 ≡ field_in row Field.binary_seconds
+      pub seconds_read : weighed_to row 100 / 2 ^ 36 ≡ field_in row Field.binary_seconds
       unfolding together
-      seconds-read = let b = bounds (field_in row) (field-small row h) in let n = fields-alone in omega arith
+      seconds_read = let b = bounds (field_in row) (field_small row h) in let n = fields_alone in omega arith
 
 -- ONE PASS
 
@@ -182,54 +182,54 @@ record Plain (j : ℕ) : Type 0 where
   weigh : (e : ℕ) → weighed (at j) e ≡ e * 2 ^ shift_of (at j)
   low : shift_of (at j) ≤ 53
 
-spare-plain : (j : ℕ) → at j ≡ Element.spare → Plain j
+spare_plain : (j : ℕ) → at j ≡ Element.spare → Plain j
 unfolding fits weighed shift_of
-spare-plain j a =
+spare_plain j a =
     record {
       fit = λ e. ap (λ (t : Element). fits t e) a;
       weigh = λ e. ap (λ (t : Element). weighed t e) a ∙ ap (λ (t : Element). e * 2 ^ shift_of t) (sym a);
       low = rw a (lit≤ tt);
     }
 
-bit-plain : (j : ℕ) → j < 100 → (f : Field) (i : ℕ) → at j ≡ Element.bit f i → Plain j
+bit_plain : (j : ℕ) → j < 100 → (f : Field) (i : ℕ) → at j ≡ Element.bit f i → Plain j
 unfolding fits weighed shift_of
-bit-plain j l f i a =
+bit_plain j l f i a =
     record {
       fit = λ e. ap (λ (t : Element). fits t e) a;
       weigh = λ e. ap (λ (t : Element). weighed t e) a ∙ ap (λ (t : Element). e * 2 ^ shift_of t) (sym a);
-      low = rw a (let b = bit-low j l f i a in omega arith);
+      low = rw a (let b = bit_low j l f i a in omega arith);
     }
 
-marker-64 : (j : ℕ) → at j ≡ Element.marker → shift_of (at j) ≡ 64
+marker_64 : (j : ℕ) → at j ≡ Element.marker → shift_of (at j) ≡ 64
 unfolding shift_of
-marker-64 j a = ap shift_of a
+marker_64 j a = ap shift_of a
 
-plain-shift : (j : ℕ) → j < 100 → (shift_of (at j) ≡ 64 → ⊥) → Plain j
-plain-shift j l p = go (at j) refl
+plain_shift : (j : ℕ) → j < 100 → (shift_of (at j) ≡ 64 → ⊥) → Plain j
+plain_shift j l p = go (at j) refl
   where
     go : (t : Element) → at j ≡ t → Plain j
-    go Element.marker a = absurd (p (marker-64 j a))
-    go Element.spare a = spare-plain j a
-    go (Element.bit f i) a = bit-plain j l f i a
+    go Element.marker a = absurd (p (marker_64 j a))
+    go Element.spare a = spare_plain j a
+    go (Element.bit f i) a = bit_plain j l f i a
 
-marker-shift : (j : ℕ) → j < 100 → shift_of (at j) ≡ 64 → at j ≡ Element.marker
-marker-shift j l p = go (at j) refl
+marker_shift : (j : ℕ) → j < 100 → shift_of (at j) ≡ 64 → at j ≡ Element.marker
+marker_shift j l p = go (at j) refl
   where
     go : (t : Element) → at j ≡ t → at j ≡ Element.marker
     go Element.marker a = a
-    go Element.spare a = absurd (let b = (spare-plain j a).low in omega arith)
-    go (Element.bit f i) a = absurd (let b = (bit-plain j l f i a).low in omega arith)
+    go Element.spare a = absurd (let b = (spare_plain j a).low in omega arith)
+    go (Element.bit f i) a = absurd (let b = (bit_plain j l f i a).low in omega arith)
 
-marker-fits : (t : Element) (e : ℕ) → t ≡ Element.marker → fits t e ≡ eqb e 2
+marker_fits : (t : Element) (e : ℕ) → t ≡ Element.marker → fits t e ≡ eqb e 2
 unfolding fits
-marker-fits t e a = ap (λ (u : Element). fits u e) a
+marker_fits t e a = ap (λ (u : Element). fits u e) a
 
-marker-weighed : (t : Element) (e : ℕ) → t ≡ Element.marker → weighed t e ≡ 0
+marker_weighed : (t : Element) (e : ℕ) → t ≡ Element.marker → weighed t e ≡ 0
 unfolding weighed
-marker-weighed t e a = ap (λ (u : Element). weighed u e) a
+marker_weighed t e a = ap (λ (u : Element). weighed u e) a
 
-pub plain-small : (e p : ℕ) → e ≤ 1 → p ≤ 53 → e * 2 ^ p ≤ 9007199254740992
-plain-small e p h l =
+pub plain_small : (e p : ℕ) → e ≤ 1 → p ≤ 53 → e * 2 ^ p ≤ 9007199254740992
+plain_small e p h l =
     let m : 2 ^ p ≤ 9007199254740992 = pow_mono l in
     let n : e * 2 ^ p ≤ 1 * 9007199254740992 = mul-le-mul {n₁ = e} {m₁ = 2 ^ p} {n₂ = 1} {m₂ = 9007199254740992} h m in
     omega arith
@@ -240,34 +240,34 @@ pub record Scanning (row : List ℕ) (n i : ℕ) : Type 0 where
   pub sum : n ≡ weighed_to row i
   pub small : n ≤ i * 9007199254740992
 
-pub scan-none : (row : List ℕ) → Scanning row 0 0
+pub scan_none : (row : List ℕ) → Scanning row 0 0
 unfolding all_to weighed_to sum_to
-scan-none row = record { fit = refl; sum = refl; small = lit≤ tt }
+scan_none row = record { fit = refl; sum = refl; small = lit≤ tt }
 
 -- the shifts that the code has
 module _ (ss : List ℕ) (is : ss ≡ map shift_of table) (row : List ℕ) (n i : ℕ) (l : i < 100) where
-  pub shift-low : (get_or ss i 0 ≡ 64 → ⊥) → get_or ss i 0 ≤ 53
-  shift-low p = rw (shift_is ss is i l) (plain-shift i l (λ e. p (shift_is ss is i l ∙ e))).low
+  pub shift_low : (get_or ss i 0 ≡ 64 → ⊥) → get_or ss i 0 ≤ 53
+  shift_low p = rw (shift_is ss is i l) (plain_shift i l (λ e. p (shift_is ss is i l ∙ e))).low
 
   -- a marker adds nothing
-  pub scan-marker : Scanning row n i → get_or ss i 0 ≡ 64 → get_or row i 0 ≡ 2 → Scanning row n (i + 1)
+  pub scan_marker : Scanning row n i → get_or ss i 0 ≡ 64 → get_or row i 0 ≡ 2 → Scanning row n (i + 1)
   unfolding all_to weighed_to sum_to
-  scan-marker s p e =
-      let k = marker-shift i l (sym (shift_is ss is i l) ∙ p) in
+  scan_marker s p e =
+      let k = marker_shift i l (sym (shift_is ss is i l) ∙ p) in
       let o : i + 1 ≡ suc i = omega arith in
       rw o
       record {
-        fit = simp (s.fit, marker-fits (at i) (get_or row i 0) k, eq-eqb (get_or row i 0) 2 e);
-        sum = let w = marker-weighed (at i) (get_or row i 0) k in let u = s.sum in omega arith;
+        fit = simp (s.fit, marker_fits (at i) (get_or row i 0) k, eq-eqb (get_or row i 0) 2 e);
+        sum = let w = marker_weighed (at i) (get_or row i 0) k in let u = s.sum in omega arith;
         small = let u = s.small in omega arith;
       }
 
   -- any other element counts by its shift
-  pub scan-plain : Scanning row n i → (get_or ss i 0 ≡ 64 → ⊥) → get_or row i 0 ≤ 1 → Scanning row (n + get_or row i 0 * 2 ^ get_or ss i 0 % 18446744073709551616) (i + 1)
+  pub scan_plain : Scanning row n i → (get_or ss i 0 ≡ 64 → ⊥) → get_or row i 0 ≤ 1 → Scanning row (n + get_or row i 0 * 2 ^ get_or ss i 0 % 18446744073709551616) (i + 1)
   unfolding all_to weighed_to sum_to
-  scan-plain s p e =
-      let k = plain-shift i l (λ q. p (shift_is ss is i l ∙ q)) in
-      let v = plain-small (get_or row i 0) (get_or ss i 0) e (shift-low p) in
+  scan_plain s p e =
+      let k = plain_shift i l (λ q. p (shift_is ss is i l ∙ q)) in
+      let v = plain_small (get_or row i 0) (get_or ss i 0) e (shift_low p) in
       let x : get_or row i 0 * 2 ^ get_or ss i 0 % 18446744073709551616 ≡ get_or row i 0 * 2 ^ get_or ss i 0 = mod-eq_of_lt (omega arith) in
       let o : i + 1 ≡ suc i = omega arith in
       rw o
@@ -280,29 +280,29 @@ module _ (ss : List ℕ) (is : ss ≡ map shift_of table) (row : List ℕ) (n i 
   -- and the number stays within its 64 bits
   pub sum_fits : Scanning row n i → (get_or ss i 0 ≡ 64 → ⊥) → get_or row i 0 ≤ 1 → n + get_or row i 0 * 2 ^ get_or ss i 0 % 18446744073709551616 < 18446744073709551616
   sum_fits s p e =
-      let v = plain-small (get_or row i 0) (get_or ss i 0) e (shift-low p) in
+      let v = plain_small (get_or row i 0) (get_or ss i 0) e (shift_low p) in
       let x : get_or row i 0 * 2 ^ get_or ss i 0 % 18446744073709551616 ≡ get_or row i 0 * 2 ^ get_or ss i 0 = mod-eq_of_lt (omega arith) in
       let u = s.small in omega arith
 
 -- an element that does not fit
-misfit-scan : (row : List ℕ) (i : ℕ) → i < 100 → fits (at i) (get_or row i 0) ≡ false → scanned row ≡ record { fits = false; number = 0 }
+misfit_scan : (row : List ℕ) (i : ℕ) → i < 100 → fits (at i) (get_or row i 0) ≡ false → scanned row ≡ record { fits = false; number = 0 }
 unfolding scanned
-misfit-scan row i l e = go (all_fit row) refl
+misfit_scan row i l e = go (all_fit row) refl
   where
     go : (t : Bool) → all_fit row ≡ t → ◌≡◌ {A = Summed} (record { fits = t; number = pick t (weighed_to row 100) 0 }) (record { fits = false; number = 0 })
     go true h = clash (sym (fit_at row h i l) ∙ e)
     go false h = refl
 
 module _ (ss : List ℕ) (is : ss ≡ map shift_of table) (row : List ℕ) (i : ℕ) (l : i < 100) where
-  pub marker-missing : get_or ss i 0 ≡ 64 → (get_or row i 0 ≡ 2 → ⊥) → record { fits = false; number = 0 } ≡ scanned row
-  marker-missing p e = sym (misfit-scan row i l (marker-fits (at i) (get_or row i 0) (marker-shift i l (sym (shift_is ss is i l) ∙ p)) ∙ ne_eqb (get_or row i 0) 2 e))
+  pub marker_missing : get_or ss i 0 ≡ 64 → (get_or row i 0 ≡ 2 → ⊥) → record { fits = false; number = 0 } ≡ scanned row
+  marker_missing p e = sym (misfit_scan row i l (marker_fits (at i) (get_or row i 0) (marker_shift i l (sym (shift_is ss is i l) ∙ p)) ∙ ne_eqb (get_or row i 0) 2 e))
 
-  pub element-above : (get_or ss i 0 ≡ 64 → ⊥) → 1 < get_or row i 0 → record { fits = false; number = 0 } ≡ scanned row
-  element-above p e = sym (misfit-scan row i l ((plain-shift i l (λ q. p (shift_is ss is i l ∙ q))).fit (get_or row i 0) ∙ le-ltb (get_or row i 0) 2 e))
+  pub element_above : (get_or ss i 0 ≡ 64 → ⊥) → 1 < get_or row i 0 → record { fits = false; number = 0 } ≡ scanned row
+  element_above p e = sym (misfit_scan row i l ((plain_shift i l (λ q. p (shift_is ss is i l ∙ q))).fit (get_or row i 0) ∙ le-ltb (get_or row i 0) 2 e))
 
-pub scan-all : (row : List ℕ) (n i : ℕ) → i ≡ 100 → Scanning row n i → record { fits = true; number = n } ≡ scanned row
+pub scan_all : (row : List ℕ) (n i : ℕ) → i ≡ 100 → Scanning row n i → record { fits = true; number = n } ≡ scanned row
 unfolding scanned all_fit
-scan-all row n i e s =
+scan_all row n i e s =
     let f : all_to 100 (λ (j : ℕ). fits (at j) (get_or row j 0)) ≡ true = ap (λ (k : ℕ). all_to k (λ (j : ℕ). fits (at j) (get_or row j 0))) (sym e) ∙ s.fit in
     simp (f, s.sum, e)
 
@@ -311,7 +311,7 @@ scan-all row n i e s =
 -- there is no fraction
 pub no_fraction : (row : List ℕ) → tick_in (digits_in row) ≡ without_fraction (tick_in (digits_in row))
 unfolding digits_of
-no_fraction row = whole-second (digits_in row) refl
+no_fraction row = whole_second (digits_in row) refl
 
 module _ (row : List ℕ) where
   abbrev ds : List ℕ
@@ -322,24 +322,24 @@ module _ (row : List ℕ) where
   read_short l = simp (lt-ltb (length row) 100 l)
 
   module _ (l : 100 ≤ length row) where
-    pub read-misfit : all_fit row ≡ false → read_frame row ≡ time_read 22 0 0
+    pub read_misfit : all_fit row ≡ false → read_frame row ≡ time_read 22 0 0
     unfolding read_frame read_refusal
-    read-misfit e = simp (le-ltb (length row) 100 l, e)
+    read_misfit e = simp (le-ltb (length row) 100 l, e)
 
     module _ (f : all_fit row ≡ true) where
-      pub read-spare : spares_clear row ≡ false → read_frame row ≡ time_read 23 0 0
+      pub read_spare : spares_clear row ≡ false → read_frame row ≡ time_read 23 0 0
       unfolding read_frame read_refusal
-      read-spare e = simp (le-ltb (length row) 100 l, f, e)
+      read_spare e = simp (le-ltb (length row) 100 l, f, e)
 
       module _ (s : spares_clear row ≡ true) where
         -- 17 and 11 are those of time words
-        pub read-refused : ((read_digits ds).number ≡ 0 → ⊥) → read_digits ds ≡ read_frame row
+        pub read_refused : ((read_digits ds).number ≡ 0 → ⊥) → read_digits ds ≡ read_frame row
         unfolding read_frame read_refusal
-        read-refused z = go (decimal ds) refl (digits_in_range ds) refl
+        read_refused z = go (decimal ds) refl (digits_in_range ds) refl
           where
             go : (d : Bool) → decimal ds ≡ d → (r : Bool) → digits_in_range ds ≡ r → read_digits ds ≡ read_frame row
-            go false d r e = read-bad ds d ∙ sym (simp (le-ltb (length row) 100 l, f, s, d))
-            go true d false e = read-outside ds d e ∙ sym (simp (le-ltb (length row) 100 l, f, s, d, e))
+            go false d r e = read_bad ds d ∙ sym (simp (le-ltb (length row) 100 l, f, s, d))
+            go true d false e = read_outside ds d e ∙ sym (simp (le-ltb (length row) 100 l, f, s, d, e))
             go true d true e = absurd (z (ap (λ (t : TimeRead). t.number) (read_done ds d e)))
 
         record Read : Type 0 where
@@ -347,80 +347,80 @@ module _ (row : List ℕ) where
           range : digits_in_range ds ≡ true
           is : read_digits ds ≡ time_read 0 (day_in ds) (tick_in ds)
 
-        read-tested : (read_digits ds).number ≡ 0 → Read
-        read-tested z = go (decimal ds) refl (digits_in_range ds) refl
+        read_tested : (read_digits ds).number ≡ 0 → Read
+        read_tested z = go (decimal ds) refl (digits_in_range ds) refl
           where
             go : (d : Bool) → decimal ds ≡ d → (r : Bool) → digits_in_range ds ≡ r → Read
-            go false d r e = absurd (let q : 17 ≡ 0 = sym (ap (λ (t : TimeRead). t.number) (read-bad ds d)) ∙ z in omega arith)
-            go true d false e = absurd (let q : 11 ≡ 0 = sym (ap (λ (t : TimeRead). t.number) (read-outside ds d e)) ∙ z in omega arith)
+            go false d r e = absurd (let q : 17 ≡ 0 = sym (ap (λ (t : TimeRead). t.number) (read_bad ds d)) ∙ z in omega arith)
+            go true d false e = absurd (let q : 11 ≡ 0 = sym (ap (λ (t : TimeRead). t.number) (read_outside ds d e)) ∙ z in omega arith)
             go true d true e = record { digits = d; range = e; is = read_done ds d e }
 
         module _ (z : (read_digits ds).number ≡ 0) where
-          tick-read : (read_digits ds).tick.ticks ≡ tick_in ds
-          tick-read = ap (λ (t : TimeRead). t.tick.ticks) (read-tested z).is
+          tick_read : (read_digits ds).tick.ticks ≡ tick_in ds
+          tick_read = ap (λ (t : TimeRead). t.tick.ticks) (read_tested z).is
 
-          pub read-differs : ((read_digits ds).tick.ticks ≡ field_in row Field.binary_seconds * 10000000 → ⊥) → read_frame row ≡ time_read 24 0 0
+          pub read_differs : ((read_digits ds).tick.ticks ≡ field_in row Field.binary_seconds * 10000000 → ⊥) → read_frame row ≡ time_read 24 0 0
           unfolding read_frame read_refusal
-          read-differs n =
-              let q = read-tested z in
+          read_differs n =
+              let q = read_tested z in
               let w = no_fraction row in
-              simp (le-ltb (length row) 100 l, f, s, q.digits, q.range, ne_eqb (field_in row Field.binary_seconds) (tick_in ds / 10000000) (λ e. n (tick-read ∙ w ∙ ap (λ (x : ℕ). x * 10000000) (sym e))))
+              simp (le-ltb (length row) 100 l, f, s, q.digits, q.range, ne_eqb (field_in row Field.binary_seconds) (tick_in ds / 10000000) (λ e. n (tick_read ∙ w ∙ ap (λ (x : ℕ). x * 10000000) (sym e))))
 
-          pub read-time : (read_digits ds).tick.ticks ≡ field_in row Field.binary_seconds * 10000000 → read_digits ds ≡ read_frame row
+          pub read_time : (read_digits ds).tick.ticks ≡ field_in row Field.binary_seconds * 10000000 → read_digits ds ≡ read_frame row
           unfolding read_frame read_refusal
-          read-time n =
-              let q = read-tested z in
-              let e : field_in row Field.binary_seconds * 10000000 ≡ tick_in ds = sym n ∙ tick-read in
+          read_time n =
+              let q = read_tested z in
+              let e : field_in row Field.binary_seconds * 10000000 ≡ tick_in ds = sym n ∙ tick_read in
               q.is ∙ sym (simp (le-ltb (length row) 100 l, f, s, q.digits, q.range, eq-eqb (field_in row Field.binary_seconds) (tick_in ds / 10000000) (omega arith)))
 
 -- EACH RETURN OF THE CODE
 
 module _ (row : List ℕ) (l : 100 ≤ length row) (s : Summed) (is : s ≡ scanned row) where
-  fits-is : s.fits ≡ all_fit row
+  fits_is : s.fits ≡ all_fit row
   unfolding scanned
-  fits-is = ap (λ (t : Summed). t.fits) is
+  fits_is = ap (λ (t : Summed). t.fits) is
 
   sum_is : all_fit row ≡ true → s.number ≡ weighed_to row 100
   unfolding scanned
   sum_is f = ap (λ (t : Summed). t.number) is ∙ ap (λ (t : Bool). pick t (weighed_to row 100) 0) f
 
-  pub frame-22 : s.fits ≡ false → (r : TimeRead) → r ≡ time_read 22 0 0 → r ≡ read_frame row
-  frame-22 f r e = e ∙ sym (read-misfit row l (sym fits-is ∙ f))
+  pub frame_22 : s.fits ≡ false → (r : TimeRead) → r ≡ time_read 22 0 0 → r ≡ read_frame row
+  frame_22 f r e = e ∙ sym (read_misfit row l (sym fits_is ∙ f))
 
   module _ (f : s.fits ≡ true) where
     all : all_fit row ≡ true
-    all = sym fits-is ∙ f
+    all = sym fits_is ∙ f
 
-    pub frame-23 : 9007199254740992 ≤ s.number → (r : TimeRead) → r ≡ time_read 23 0 0 → r ≡ read_frame row
-    frame-23 g r e = e ∙ sym (read-spare row l all (spare-set row all (rw (sym (sum_is all)) g)))
+    pub frame_23 : 9007199254740992 ≤ s.number → (r : TimeRead) → r ≡ time_read 23 0 0 → r ≡ read_frame row
+    frame_23 g r e = e ∙ sym (read_spare row l all (spare_set row all (rw (sym (sum_is all)) g)))
 
     module _ (g : s.number < 9007199254740992) (r : TimeRead) (e : r ≡ read_words (words_in s.number)) where
       small : weighed_to row 100 < 9007199254740992
       small = rw (sym (sum_is all)) g
 
       clears : spares_clear row ≡ true
-      clears = spare-clear row all small
+      clears = spare_clear row all small
 
       digits : r ≡ read_digits (digits_in row)
-      digits = e ∙ ap (λ (n : ℕ). read_words (words_in n)) (sum_is all) ∙ digits-read row all small
+      digits = e ∙ ap (λ (n : ℕ). read_words (words_in n)) (sum_is all) ∙ digits_read row all small
 
       number_of : r.number ≡ (read_digits (digits_in row)).number
       number_of = ap (λ (t : TimeRead). t.number) digits
 
-      pub frame-digits : (r.number ≡ 0 → ⊥) → r ≡ read_frame row
-      frame-digits n = digits ∙ read-refused row l all clears (λ z. n (number_of ∙ z))
+      pub frame_digits : (r.number ≡ 0 → ⊥) → r ≡ read_frame row
+      frame_digits n = digits ∙ read_refused row l all clears (λ z. n (number_of ∙ z))
 
       module _ (z : r.number ≡ 0) where
         seconds : s.number / 2 ^ 36 ≡ field_in row Field.binary_seconds
-        seconds = ap (λ (n : ℕ). n / 2 ^ 36) (sum_is all) ∙ seconds-read row all small
+        seconds = ap (λ (n : ℕ). n / 2 ^ 36) (sum_is all) ∙ seconds_read row all small
 
-        tick-of : r.tick.ticks ≡ (read_digits (digits_in row)).tick.ticks
-        tick-of = ap (λ (t : TimeRead). t.tick.ticks) digits
+        tick_of : r.tick.ticks ≡ (read_digits (digits_in row)).tick.ticks
+        tick_of = ap (λ (t : TimeRead). t.tick.ticks) digits
 
-        pub frame-24 : (r.tick.ticks ≡ s.number / 2 ^ 36 * 10000000 → ⊥) → (t : TimeRead) → t ≡ time_read 24 0 0 → t ≡ read_frame row
-        frame-24 n t u =
-            u ∙ sym (read-differs row l all clears (sym number_of ∙ z) (λ q. n (tick-of ∙ q ∙ ap (λ (x : ℕ). x * 10000000) (sym seconds))))
+        pub frame_24 : (r.tick.ticks ≡ s.number / 2 ^ 36 * 10000000 → ⊥) → (t : TimeRead) → t ≡ time_read 24 0 0 → t ≡ read_frame row
+        frame_24 n t u =
+            u ∙ sym (read_differs row l all clears (sym number_of ∙ z) (λ q. n (tick_of ∙ q ∙ ap (λ (x : ℕ). x * 10000000) (sym seconds))))
 
-        pub frame-0 : r.tick.ticks ≡ s.number / 2 ^ 36 * 10000000 → r ≡ read_frame row
-        frame-0 n =
-            digits ∙ read-time row l all clears (sym number_of ∙ z) (sym tick-of ∙ n ∙ ap (λ (x : ℕ). x * 10000000) seconds)
+        pub frame_0 : r.tick.ticks ≡ s.number / 2 ^ 36 * 10000000 → r ≡ read_frame row
+        frame_0 n =
+            digits ∙ read_time row l all clears (sym number_of ∙ z) (sym tick_of ∙ n ∙ ap (λ (x : ℕ). x * 10000000) seconds)

@@ -13,26 +13,26 @@ use lib.Seq.{ext_get_or, paste, paste-zero, paste-suc, take_all}
 use borrow.Author.Tests.{ne_eqb, lt-ltb, le-ltb}
 use Rattle.wire.specs.Words.{words_of, writable, words_or_zero}
 use Rattle.wire.specs.Time.{hour_of, minute_of, second_of}
-use Rattle.wire.proofs.words.Laws.{in-ranges, writable-day, writable-tick, words-within, hundreds-word, days-and-hours-word, minutes-and-seconds-word}
-use Rattle.wire.proofs.time.Laws.{hour-below, minute-below, second_below}
-use Rattle.clock.proofs.time.Laws.{in-range, days-in-year}
+use Rattle.wire.proofs.words.Laws.{in_ranges, writable_day, writable_tick, words_within, hundreds_word, days_and_hours_word, minutes_and_seconds_word}
+use Rattle.wire.proofs.time.Laws.{hour_below, minute_below, second_below}
+use Rattle.clock.proofs.time.Laws.{in_range_lem, days_in_year}
 use Rattle.clock.proofs.lawful.Laws as clock
 use Rattle.card.proofs.lawful.Laws as card
 use Rattle.card.specs.declared.card.Card.{Card}
 use Rattle.card.specs.Lawful.{lawful}
 use Rattle.irig.specs.Table.{Field, Element, table, at, digit_of, field_shift, width, shift_of}
 use Rattle.irig.specs.Writing.{field_of, element_of, frame_of, write_refusal, row_written, Holds, element_at}
-use Rattle.irig.proofs.table.Laws.{from-map, at_place, hundred-of, bit-within, bit-low, together, together_at, together-small}
+use Rattle.irig.proofs.table.Laws.{from_map, at_place, hundred_of, bit_within, bit_low, together, together_at, together_small}
 
 -- THE ELEMENTS OF A NUMBER
 
-map-map : {A : Type 0} (g : ℕ → ℕ) (f : A → ℕ) (ts : List A) → map g (map f ts) ≡ map (λ (t : A). g (f t)) ts
-map-map g f [] = refl
-map-map g f (t ∷ ts) = ap (λ (l : List ℕ). g (f t) ∷ l) (map-map g f ts)
+map_map : {A : Type 0} (g : ℕ → ℕ) (f : A → ℕ) (ts : List A) → map g (map f ts) ≡ map (λ (t : A). g (f t)) ts
+map_map g f [] = refl
+map_map g f (t ∷ ts) = ap (λ (l : List ℕ). g (f t) ∷ l) (map_map g f ts)
 
 -- a bit within a field, seen from the whole number
-bit-of-field : (n b w i : ℕ) → i < w → n / 2 ^ (b + i) % 2 ≡ n / 2 ^ b % 2 ^ w / 2 ^ i % 2
-bit-of-field n b w i l =
+bit_of_field : (n b w i : ℕ) → i < w → n / 2 ^ (b + i) % 2 ≡ n / 2 ^ b % 2 ^ w / 2 ^ i % 2
+bit_of_field n b w i l =
     let e : w ≡ suc (w - suc i) + i = omega arith in
     let j : ℕ = w - suc i in
     sym
@@ -43,35 +43,35 @@ bit-of-field n b w i l =
     ∙ ap (λ (x : ℕ). x % 2) (shr-shr n b i))
 
 module _ (n : ℕ) (v : Field → ℕ) (h : Holds n v) where
-  marker-element : element_at n (shift_of Element.marker) ≡ element_of v Element.marker
+  marker_element : element_at n (shift_of Element.marker) ≡ element_of v Element.marker
   unfolding element_at shift_of element_of
-  marker-element = refl
+  marker_element = refl
 
-  spare-element : element_at n (shift_of Element.spare) ≡ element_of v Element.spare
+  spare_element : element_at n (shift_of Element.spare) ≡ element_of v Element.spare
   unfolding element_at shift_of element_of digit_of
-  spare-element = ap (λ (x : ℕ). x % 2) (div-eq_of_lt h.small)
+  spare_element = ap (λ (x : ℕ). x % 2) (div-eq_of_lt h.small)
 
-  bit-element : (f : Field) (i : ℕ) → i < width f → field_shift f + i < 53 → element_at n (shift_of (Element.bit f i)) ≡ element_of v (Element.bit f i)
+  bit_element : (f : Field) (i : ℕ) → i < width f → field_shift f + i < 53 → element_at n (shift_of (Element.bit f i)) ≡ element_of v (Element.bit f i)
   unfolding element_at shift_of element_of digit_of
-  bit-element f i w l =
+  bit_element f i w l =
       simp (ne_eqb (field_shift f + i) 64 (λ e. omega arith))
-      (bit-of-field n (field_shift f) (width f) i w ∙ ap (λ (x : ℕ). x / 2 ^ i % 2) (h.each f))
+      (bit_of_field n (field_shift f) (width f) i w ∙ ap (λ (x : ℕ). x / 2 ^ i % 2) (h.each f))
 
-  element-is : (j : ℕ) → j < 100 → element_at n (shift_of (at j)) ≡ element_of v (at j)
-  element-is j l = go (at j) refl
+  element_is : (j : ℕ) → j < 100 → element_at n (shift_of (at j)) ≡ element_of v (at j)
+  element_is j l = go (at j) refl
     where
       go : (t : Element) → at j ≡ t → element_at n (shift_of (at j)) ≡ element_of v (at j)
-      go Element.marker a = rw a marker-element
-      go Element.spare a = rw a spare-element
-      go (Element.bit f i) a = rw a (bit-element f i (bit-within j l f i a) (bit-low j l f i a))
+      go Element.marker a = rw a marker_element
+      go Element.spare a = rw a spare_element
+      go (Element.bit f i) a = rw a (bit_element f i (bit_within j l f i a) (bit_low j l f i a))
 
   -- the elements by the shifts of the table
-  pub elements-of : map (element_at n) (map shift_of table) ≡ map (element_of v) table
-  elements-of =
-      map-map (element_at n) shift_of table
+  pub elements_of : map (element_at n) (map shift_of table) ≡ map (element_of v) table
+  elements_of =
+      map_map (element_at n) shift_of table
       ∙ ext_get_or 0 (map (λ (t : Element). element_at n (shift_of t)) table) (map (element_of v) table)
-      (hundred-of (λ (t : Element). element_at n (shift_of t)) ∙ sym (hundred-of (element_of v)))
-      (λ j l. let k : j < 100 = rw (hundred-of (λ (t : Element). element_at n (shift_of t))) at l in at_place (λ (t : Element). element_at n (shift_of t)) j k ∙ element-is j k ∙ sym (at_place (element_of v) j k))
+      (hundred_of (λ (t : Element). element_at n (shift_of t)) ∙ sym (hundred_of (element_of v)))
+      (λ j l. let k : j < 100 = rw (hundred_of (λ (t : Element). element_at n (shift_of t))) at l in at_place (λ (t : Element). element_at n (shift_of t)) j k ∙ element_is j k ∙ sym (at_place (element_of v) j k))
 
 -- THE NUMBER OF A TIME
 
@@ -104,25 +104,25 @@ module _ (day tick : ℕ) where
 
 -- and how large they are
 module _ (day tick : ℕ) (w : writable day tick ≡ true) where
-  plain-within : (f : Field) → plain day tick f < 2 ^ width f
+  plain_within : (f : Field) → plain day tick f < 2 ^ width f
   unfolding width
-  plain-within Field.second_units = omega arith
-  plain-within Field.second_tens = let z = second_below tick in omega arith
-  plain-within Field.minute_units = omega arith
-  plain-within Field.minute_tens = let z = minute-below tick in omega arith
-  plain-within Field.hour_units = omega arith
-  plain-within Field.hour_tens = let z = hour-below tick (writable-tick day tick w) in omega arith
-  plain-within Field.day_units = omega arith
-  plain-within Field.day_tens = omega arith
-  plain-within Field.day_hundreds = let z = writable-day day tick w in omega arith
-  plain-within Field.binary_seconds = let t = writable-tick day tick w in omega arith
+  plain_within Field.second_units = omega arith
+  plain_within Field.second_tens = let z = second_below tick in omega arith
+  plain_within Field.minute_units = omega arith
+  plain_within Field.minute_tens = let z = minute_below tick in omega arith
+  plain_within Field.hour_units = omega arith
+  plain_within Field.hour_tens = let z = hour_below tick (writable_tick day tick w) in omega arith
+  plain_within Field.day_units = omega arith
+  plain_within Field.day_tens = omega arith
+  plain_within Field.day_hundreds = let z = writable_day day tick w in omega arith
+  plain_within Field.binary_seconds = let t = writable_tick day tick w in omega arith
 
-  pub field-within : (f : Field) → field_of day tick f < 2 ^ width f
-  field-within f = rw (sym (field_is day tick f)) (plain-within f)
+  pub field_within : (f : Field) → field_of day tick f < 2 ^ width f
+  field_within f = rw (sym (field_is day tick f)) (plain_within f)
 
 module _ (day tick : ℕ) (w : writable day tick ≡ true) (ws : List ℕ) (o : ws ≡ words_or_zero day tick) where
   e : ws ≡ words_of day tick
-  e = let d = writable-day day tick w in o ∙ words-within day tick d.0 d.1 (writable-tick day tick w)
+  e = let d = writable_day day tick w in o ∙ words_within day tick d.0 d.1 (writable_tick day tick w)
 
   -- its words and its seconds
   abbrev number_of : ℕ
@@ -130,18 +130,18 @@ module _ (day tick : ℕ) (w : writable day tick ≡ true) (ws : List ℕ) (o : 
 
   number_is : number_of ≡ together (plain day tick)
   unfolding together
-  number_is = simp (e, hundreds-word day tick, days-and-hours-word day tick, minutes-and-seconds-word day tick) (omega arith)
+  number_is = simp (e, hundreds_word day tick, days_and_hours_word day tick, minutes_and_seconds_word day tick) (omega arith)
 
-  pub number-holds : Holds number_of (field_of day tick)
-  number-holds =
+  pub number_holds : Holds number_of (field_of day tick)
+  number_holds =
       rw number_is
       record {
-        each = λ f. together_at (plain day tick) (plain-within day tick w) f ∙ field_is day tick f;
-        small = together-small (plain day tick) (plain-within day tick w);
+        each = λ f. together_at (plain day tick) (plain_within day tick w) f ∙ field_is day tick f;
+        small = together_small (plain day tick) (plain_within day tick w);
       }
 
   pub number_small : number_of < 9007199254740992
-  number_small = number-holds.small
+  number_small = number_holds.small
 
 -- THE ROW
 
@@ -150,23 +150,23 @@ module _ (n : ℕ) (row₀ : List ℕ) where
   elements = map (element_at n) (map shift_of table)
 
   hundred : length elements ≡ 100
-  hundred = length-map (map shift_of table) (element_at n) ∙ hundred-of shift_of
+  hundred = length-map (map shift_of table) (element_at n) ∙ hundred_of shift_of
 
   -- the row when the first i elements are put
   pub record Put (row : List ℕ) (i : ℕ) : Type 0 where
     pub front : row ≡ paste row₀ 0 elements i
     pub same : length row ≡ length row₀
 
-  pub put-none : Put row₀ 0
-  put-none = record { front = paste-zero row₀ 0 elements; same = refl }
+  pub put_none : Put row₀ 0
+  put_none = record { front = paste-zero row₀ 0 elements; same = refl }
 
   module _ (l : 100 ≤ length row₀) (row : List ℕ) (i : ℕ) (p : Put row i) where
     -- one more, by the shifts that the code has
-    pub put-more : i < 100 → (ss : List ℕ) → ss ≡ map shift_of table → (e : ℕ) → e ≡ element_at n (get_or ss i 0) → Put (set row i e) (i + 1)
-    put-more k ss is e q =
+    pub put_more : i < 100 → (ss : List ℕ) → ss ≡ map shift_of table → (e : ℕ) → e ≡ element_at n (get_or ss i 0) → Put (set row i e) (i + 1)
+    put_more k ss is e q =
         record {
           front =
-              ap₂ (λ (r : List ℕ) (x : ℕ). set r i x) p.front (q ∙ ap (λ (qs : List ℕ). element_at n (get_or qs i 0)) is ∙ sym (from-map (element_at n) (map shift_of table) 0 i (rw (hundred-of shift_of) k)))
+              ap₂ (λ (r : List ℕ) (x : ℕ). set r i x) p.front (q ∙ ap (λ (qs : List ℕ). element_at n (get_or qs i 0)) is ∙ sym (from_map (element_at n) (map shift_of table) 0 i (rw (hundred_of shift_of) k)))
               ∙ ap (λ (j : ℕ). set (paste row₀ 0 elements i) j (get_or elements i 0)) (sym (zero-add i))
               ∙ paste-suc row₀ 0 elements i 0 (rw (zero-add i) (let m : i < length row₀ = omega arith in m)) (rw hundred k)
               ∙ ap (paste row₀ 0 elements) (let s : suc i ≡ i + 1 = omega arith in s);
@@ -179,23 +179,23 @@ module _ (n : ℕ) (row₀ : List ℕ) where
 -- THE CALL
 
 -- the time of a lawful card has a frame
-pub time-writable : (c : Card) → lawful c ≡ true → writable c.clock.time.day c.clock.time.tick.ticks ≡ true
-time-writable c h =
-    let t = (in-range c.clock.time (clock.parts c.clock (card.parts c h).clock).time).proper in
-    let d = days-in-year c.clock.time.year in
-    in-ranges _ _ t.day-low (let q = t.day-high in omega arith) t.tick
+pub time_writable : (c : Card) → lawful c ≡ true → writable c.clock.time.day c.clock.time.tick.ticks ≡ true
+time_writable c h =
+    let t = (in_range_lem c.clock.time (clock.parts c.clock (card.parts c h).clock).time).proper in
+    let d = days_in_year c.clock.time.year in
+    in_ranges _ _ t.day_low (let q = t.day_high in omega arith) t.tick
 
 module _ (c : Card) (row : List ℕ) where
-  pub write-18 : lawful c ≡ false → (18 ≡ write_refusal c (length row)) × (row ≡ row_written c row)
+  pub write_18 : lawful c ≡ false → (18 ≡ write_refusal c (length row)) × (row ≡ row_written c row)
   unfolding write_refusal row_written
-  write-18 h = (simp h, simp h)
+  write_18 h = (simp h, simp h)
 
-  pub write-14 : lawful c ≡ true → length row < 100 → (14 ≡ write_refusal c (length row)) × (row ≡ row_written c row)
+  pub write_14 : lawful c ≡ true → length row < 100 → (14 ≡ write_refusal c (length row)) × (row ≡ row_written c row)
   unfolding write_refusal row_written
-  write-14 h l = (simp (h, lt-ltb (length row) 100 l), simp (h, lt-ltb (length row) 100 l))
+  write_14 h l = (simp (h, lt-ltb (length row) 100 l), simp (h, lt-ltb (length row) 100 l))
 
-  pub write-0 : lawful c ≡ true → 100 ≤ length row → (n : ℕ) → Holds n (field_of c.clock.time.day c.clock.time.tick.ticks)
+  pub write_0 : lawful c ≡ true → 100 ≤ length row → (n : ℕ) → Holds n (field_of c.clock.time.day c.clock.time.tick.ticks)
       → (now : List ℕ) → now ≡ map (element_at n) (map shift_of table) ++ drop 100 row → (0 ≡ write_refusal c (length row)) × (now ≡ row_written c row)
   unfolding write_refusal row_written frame_of
-  write-0 h l n k now e =
-      (simp (h, le-ltb (length row) 100 l), e ∙ ap (λ (r : List ℕ). r ++ drop 100 row) (elements-of n _ k) ∙ sym (simp (h, le-ltb (length row) 100 l)))
+  write_0 h l n k now e =
+      (simp (h, le-ltb (length row) 100 l), e ∙ ap (λ (r : List ℕ). r ++ drop 100 row) (elements_of n _ k) ∙ sym (simp (h, le-ltb (length row) 100 l)))

@@ -35,16 +35,16 @@ pub record Unended (held xs : List ℕ) : Type 0 where
   pub short : length held ≤ 40 → length held + length xs ≤ 40
   pub takes : (n room : ℕ) → goes_on n room ≡ true → takes held n room xs ≡ length xs
 
-onward-zero : (n : ℕ) → onward n ≡ 0 → n ≡ 0
-onward-zero zero e = refl
-onward-zero (suc n) e = absurd (omega arith)
+onward_zero : (n : ℕ) → onward n ≡ 0 → n ≡ 0
+onward_zero zero e = refl
+onward_zero (suc n) e = absurd (omega arith)
 
 module _ (held : List ℕ) (b : ℕ) (bs : List ℕ) where
-  unended-by : (t : Bool) → ends held b ≡ t → end_of (length held) (b ∷ bs) ≡ 0 → (end_of (length (held ++ (b ∷ []))) bs ≡ 0 → Unended (held ++ (b ∷ [])) bs) → Unended held (b ∷ bs)
+  unended_by : (t : Bool) → ends held b ≡ t → end_of (length held) (b ∷ bs) ≡ 0 → (end_of (length (held ++ (b ∷ []))) bs ≡ 0 → Unended (held ++ (b ∷ [])) bs) → Unended held (b ∷ bs)
   unfolding pieces rest takes
-  unended-by true f e more = absurd (omega (arith, e, at_once held b bs f))
-  unended-by false f e more =
-      let u : Unended (held ++ (b ∷ [])) bs = more (onward-zero _ (sym (later held b bs f) ∙ e)) in
+  unended_by true f e more = absurd (omega (arith, e, at_once held b bs f))
+  unended_by false f e more =
+      let u : Unended (held ++ (b ∷ [])) bs = more (onward_zero _ (sym (later held b bs f) ∙ e)) in
       record {
         pieces = simp f u.pieces;
         rest = simp f (u.rest ∙ append_assoc held (b ∷ []) bs);
@@ -55,7 +55,7 @@ module _ (held : List ℕ) (b : ℕ) (bs : List ℕ) where
 pub unended : (held xs : List ℕ) → end_of (length held) xs ≡ 0 → Unended held xs
 unfolding pieces rest takes
 unended held [] e = record { pieces = refl; rest = sym (append-nil held); short = λ h. omega arith; takes = λ n room g. refl }
-unended held (b ∷ bs) e = unended-by held b bs (ends held b) refl e (unended (held ++ (b ∷ [])) bs)
+unended held (b ∷ bs) e = unended_by held b bs (ends held b) refl e (unended (held ++ (b ∷ [])) bs)
 
 -- an end behind k bytes
 pub record Ended (held xs : List ℕ) (k : ℕ) : Type 0 where
@@ -126,9 +126,9 @@ shifted_none : (n : ℕ) → n ≡ shifted 0 n
 shifted_none zero = refl
 shifted_none (suc n) = omega arith
 
-shifted-onward : (i n : ℕ) → shifted i (onward n) ≡ shifted (i + 1) n
-shifted-onward i zero = refl
-shifted-onward i (suc n) = omega arith
+shifted_onward : (i n : ℕ) → shifted i (onward n) ≡ shifted (i + 1) n
+shifted_onward i zero = refl
+shifted_onward i (suc n) = omega arith
 
 -- i bytes were looked at
 pub record Looked (held : ℕ) (input : List ℕ) (i : ℕ) : Type 0 where
@@ -136,8 +136,8 @@ pub record Looked (held : ℕ) (input : List ℕ) (i : ℕ) : Type 0 where
   pub short : held + i ≤ 40
   pub ends : end_of held input ≡ shifted i (end_of (held + i) (drop i input))
 
-pub looked-none : (held : ℕ) (input : List ℕ) → held ≤ 40 → Looked held input 0
-looked-none held input h =
+pub looked_none : (held : ℕ) (input : List ℕ) → held ≤ 40 → Looked held input 0
+looked_none held input h =
     record {
       within = omega arith;
       short = omega arith;
@@ -149,11 +149,11 @@ module _ (held : ℕ) (input : List ℕ) (i : ℕ) (l : Looked held input i) (h 
   unfolding end_of
   next = l.ends ∙ ap (λ (bs : List ℕ). shifted i (end_of (held + i) bs)) (drop-cons input i 0 h) ∙ ap (λ (t : Bool). shifted i (pick t 1 (onward (end_of (suc (held + i)) (drop (suc i) input))))) (sym e)
 
-  pub looked-last : last ≡ true → i + 1 ≡ end_of held input
-  looked-last t = sym (next ∙ ap (λ (s : Bool). shifted i (pick s 1 (onward (end_of (suc (held + i)) (drop (suc i) input))))) t)
+  pub looked_last : last ≡ true → i + 1 ≡ end_of held input
+  looked_last t = sym (next ∙ ap (λ (s : Bool). shifted i (pick s 1 (onward (end_of (suc (held + i)) (drop (suc i) input))))) t)
 
-  pub looked-more : last ≡ false → Looked held input (i + 1)
-  looked-more t =
+  pub looked_more : last ≡ false → Looked held input (i + 1)
+  looked_more t =
       let f : eqb (held + i) 40 ≡ false = or_right (eqb (get_or input i 0) 0x17) (eqb (held + i) 40) (sym e ∙ t) in
       record {
         within = omega arith;
@@ -161,10 +161,10 @@ module _ (held : ℕ) (input : List ℕ) (i : ℕ) (l : Looked held input i) (h 
         ends =
             next
             ∙ ap (λ (s : Bool). shifted i (pick s 1 (onward (end_of (suc (held + i)) (drop (suc i) input))))) t
-            ∙ shifted-onward i (end_of (suc (held + i)) (drop (suc i) input))
+            ∙ shifted_onward i (end_of (suc (held + i)) (drop (suc i) input))
             ∙ ap₂ (λ (k j : ℕ). shifted (i + 1) (end_of k (drop j input))) (let q : suc (held + i) ≡ held + (i + 1) = omega arith in q) (sym (add-one i));
       }
 
-pub looked-all : (held : ℕ) (input : List ℕ) (i : ℕ) → Looked held input i → length input ≤ i → 0 ≡ end_of held input
+pub looked_all : (held : ℕ) (input : List ℕ) (i : ℕ) → Looked held input i → length input ≤ i → 0 ≡ end_of held input
 unfolding end_of
-looked-all held input i l h = sym (l.ends ∙ ap (λ (bs : List ℕ). shifted i (end_of (held + i) bs)) (drop_of_length-le input h))
+looked_all held input i l h = sym (l.ends ∙ ap (λ (bs : List ℕ). shifted i (end_of (held + i) bs)) (drop_of_length-le input h))

@@ -12,8 +12,8 @@ use lib.Seq.{take-add, drop-drop, take_all}
 use borrow.Author.Tests.{ltb-true, leb-true}
 use Rattle.wire.proofs.digits.Laws.{and_left, and_right}
 use Rattle.listing.specs.Listing.{pieces, rest, answer_of, line, lines, goes_on, takes, placed, PutLine, end_of, next_end, Lined, Going, Lists}
-use Rattle.listing.proofs.lines.Laws.{placed-twice, placed-length, put-none}
-use Rattle.listing.proofs.feeding.Laws.{rest-append, pieces-append, lines-append}
+use Rattle.listing.proofs.lines.Laws.{placed_twice, placed_length, put_none}
+use Rattle.listing.proofs.feeding.Laws.{rest_append, pieces_append, lines_append}
 use Rattle.listing.proofs.feeding.Ends.{Ended, ended}
 
 -- there is a number, and room for a line
@@ -21,40 +21,40 @@ pub goes_number : (n room : ℕ) → goes_on n room ≡ true → n < 18446744073
 unfolding goes_on
 goes_number n room e = ltb-true n 18446744073709551615 (and_left (ltb n 18446744073709551615) (leb 25 room) e)
 
-pub goes-room : (n room : ℕ) → goes_on n room ≡ true → 25 ≤ room
+pub goes_room : (n room : ℕ) → goes_on n room ≡ true → 25 ≤ room
 unfolding goes_on
-goes-room n room e = leb-true 25 room (and_right (ltb n 18446744073709551615) (leb 25 room) e)
+goes_room n room e = leb-true 25 room (and_right (ltb n 18446744073709551615) (leb 25 room) e)
 
 -- a list from a place on, as it is lent
-pub behind-all : (i : ℕ) (xs : List ℕ) → take (length xs - i) (drop i xs) ≡ drop i xs
-behind-all i xs = take_all (length xs - i) (drop i xs) (omega (arith, length-drop i xs))
+pub behind_all : (i : ℕ) (xs : List ℕ) → take (length xs - i) (drop i xs) ≡ drop i xs
+behind_all i xs = take_all (length xs - i) (drop i xs) (omega (arith, length-drop i xs))
 
 -- LINES ONE BEHIND THE OTHER
 
-pub lined-none : (n : ℕ) (row : List ℕ) (at : ℕ) → at ≤ length row → Lined n row at row n at []
+pub lined_none : (n : ℕ) (row : List ℕ) (at : ℕ) → at ≤ length row → Lined n row at row n at []
 unfolding lines
-lined-none n row at h = record { row = sym (put-none row at); number = omega arith; written = omega arith; fits = h }
+lined_none n row at h = record { row = sym (put_none row at); number = omega arith; written = omega arith; fits = h }
 
 module _ (n : ℕ) (before : List ℕ) (at : ℕ) (now : List ℕ) (m w : ℕ) (ps : List (List ℕ)) (l : Lined n before at now m w ps) where
-  pub lined-length : length now ≡ length before
-  lined-length = ap length l.row ∙ placed-length before at (lines n ps) (omega (arith, l.written, l.fits))
+  pub lined_length : length now ≡ length before
+  lined_length = ap length l.row ∙ placed_length before at (lines n ps) (omega (arith, l.written, l.fits))
 
   -- one line more
-  pub lined-more : (p : List ℕ) (a : ℕ) → a ≡ answer_of p → goes_on m (length before - w) ≡ true → (row : List ℕ) (v : ℕ) → PutLine now w m a row v
+  pub lined_more : (p : List ℕ) (a : ℕ) → a ≡ answer_of p → goes_on m (length before - w) ≡ true → (row : List ℕ) (v : ℕ) → PutLine now w m a row v
       → Lined n before at row (m + 1) v (ps ++ (p ∷ []))
   unfolding lines
-  lined-more p a ea go row v put =
+  lined_more p a ea go row v put =
       let text = line m (answer_of p) in
       let t : lines n (ps ++ (p ∷ [])) ≡ lines n ps ++ text =
-      lines-append n ps (p ∷ []) ∙ ap (λ (x : List ℕ). lines n ps ++ x) (append-nil (line (n + length ps) (answer_of p)) ∙ ap (λ (x : ℕ). line x (answer_of p)) (sym l.number)) in
+      lines_append n ps (p ∷ []) ∙ ap (λ (x : List ℕ). lines n ps ++ x) (append-nil (line (n + length ps) (answer_of p)) ∙ ap (λ (x : ℕ). line x (answer_of p)) (sym l.number)) in
       let behind : v ≡ w + length text = put.put.behind ∙ ap (λ (x : ℕ). w + length (line m x)) ea in
-      let room : 25 ≤ length before - w = goes-room m (length before - w) go in
+      let room : 25 ≤ length before - w = goes_room m (length before - w) go in
       record {
         row =
             put.put.row
             ∙ ap (λ (x : ℕ). placed now w (line m x)) ea
             ∙ ap₂ (λ (x : List ℕ) (y : ℕ). placed x y text) l.row l.written
-            ∙ placed-twice before at (lines n ps) text (omega (arith, l.written, behind, put.short))
+            ∙ placed_twice before at (lines n ps) text (omega (arith, l.written, behind, put.short))
             ∙ ap (placed before at) (sym t);
         number = omega (arith, l.number, length-append ps (p ∷ []));
         written = omega (arith, behind, l.written, ap length t, length-append (lines n ps) text);
@@ -64,9 +64,9 @@ module _ (n : ℕ) (before : List ℕ) (at : ℕ) (now : List ℕ) (m w : ℕ) (
 -- PIECE BY PIECE
 
 -- before the first byte
-pub going-none : (qs : List (List ℕ)) (n : ℕ) (input before : List ℕ) (at : ℕ) (now : List ℕ) (m w : ℕ) → Lined n before at now m w qs → Going qs n input before at now m w 0
+pub going_none : (qs : List (List ℕ)) (n : ℕ) (input before : List ℕ) (at : ℕ) (now : List ℕ) (m w : ℕ) → Lined n before at now m w qs → Going qs n input before at now m w 0
 unfolding rest pieces
-going-none qs n input before at now m w l =
+going_none qs n input before at now m w l =
     record {
       within = omega arith;
       none = refl;
@@ -84,13 +84,13 @@ module _ (qs : List (List ℕ)) (n : ℕ) (input before : List ℕ) (at : ℕ) (
   going_more a ea go row v put =
       let p = take k (drop i input) in
       let c : pieces [] (take (i + k) input) ≡ pieces [] (take i input) ++ (p ∷ []) =
-      ap (pieces []) (take-add i k input) ∙ pieces-append [] (take i input) p ∙ ap (λ (held : List ℕ). pieces [] (take i input) ++ pieces held p) g.none ∙ ap (λ (ps : List (List ℕ)). pieces [] (take i input) ++ ps) u.pieces in
+      ap (pieces []) (take-add i k input) ∙ pieces_append [] (take i input) p ∙ ap (λ (held : List ℕ). pieces [] (take i input) ++ pieces held p) g.none ∙ ap (λ (ps : List (List ℕ)). pieces [] (take i input) ++ ps) u.pieces in
       let l : Lined n before at row (m + 1) v (qs ++ pieces [] (take (i + k) input)) =
-      rw (c, ← append_assoc qs (pieces [] (take i input)) (p ∷ [])) (lined-more n before at now m w (qs ++ pieces [] (take i input)) g.lined p a ea go row v put) in
+      rw (c, ← append_assoc qs (pieces [] (take i input)) (p ∷ [])) (lined_more n before at now m w (qs ++ pieces [] (take i input)) g.lined p a ea go row v put) in
       let behind : v ≡ w + length (line m (answer_of p)) = put.put.behind ∙ ap (λ (x : ℕ). w + length (line m x)) ea in
       record {
         within = omega (arith, g.within, u.within, length-drop i input);
-        none = ap (rest []) (take-add i k input) ∙ rest-append [] (take i input) p ∙ ap (λ (held : List ℕ). rest held p) g.none ∙ u.rest;
+        none = ap (rest []) (take-add i k input) ∙ rest_append [] (take i input) p ∙ ap (λ (held : List ℕ). rest held p) g.none ∙ u.rest;
         lined = l;
         left =
             g.left
@@ -105,24 +105,24 @@ module _ (qs : List (List ℕ)) (n : ℕ) (input before : List ℕ) (at : ℕ) (
 
 -- a next piece has room for its line, ends in the input, and is its front
 module _ (n room : ℕ) (xs : List ℕ) where
-  next-by : (t : Bool) → goes_on n room ≡ t → 0 < next_end n room xs → (goes_on n room ≡ true) × (end_of 0 xs ≡ next_end n room xs)
+  next_by : (t : Bool) → goes_on n room ≡ t → 0 < next_end n room xs → (goes_on n room ≡ true) × (end_of 0 xs ≡ next_end n room xs)
   unfolding next_end
-  next-by true e h = (e, sym (simp e))
-  next-by false e h = absurd (let z : next_end n room xs ≡ 0 = simp e in omega arith)
+  next_by true e h = (e, sym (simp e))
+  next_by false e h = absurd (let z : next_end n room xs ≡ 0 = simp e in omega arith)
 
-  pub next-goes : 0 < next_end n room xs → goes_on n room ≡ true
-  next-goes h = (next-by (goes_on n room) refl h).0
+  pub next_goes : 0 < next_end n room xs → goes_on n room ≡ true
+  next_goes h = (next_by (goes_on n room) refl h).0
 
-  pub next-ends : (k : ℕ) → k ≡ next_end n room xs → 0 < k → Ended [] xs k
-  next-ends zero e h = absurd (omega arith)
-  next-ends (suc k) e h = ended [] xs k ((next-by (goes_on n room) refl (omega (arith, e))).1 ∙ sym e)
+  pub next_ends : (k : ℕ) → k ≡ next_end n room xs → 0 < k → Ended [] xs k
+  next_ends zero e h = absurd (omega arith)
+  next_ends (suc k) e h = ended [] xs k ((next_by (goes_on n room) refl (omega (arith, e))).1 ∙ sym e)
 
-  pub next-within : next_end n room xs ≤ length xs
-  next-within = go (next_end n room xs) refl
+  pub next_within : next_end n room xs ≤ length xs
+  next_within = go (next_end n room xs) refl
     where
       go : (k : ℕ) → k ≡ next_end n room xs → next_end n room xs ≤ length xs
       go zero e = omega arith
-      go (suc k) e = rw (← e) (next-ends (suc k) e (omega arith)).within
+      go (suc k) e = rw (← e) (next_ends (suc k) e (omega arith)).within
 
 -- the first piece is listed, and others behind it
 pub record On (input : List ℕ) (first n : ℕ) (before : List ℕ) (at : ℕ) (now : List ℕ) (m w i k : ℕ) : Type 0 where
@@ -140,36 +140,36 @@ pub record Turn (input : List ℕ) (first n : ℕ) (before : List ℕ) (at : ℕ
   pub goes : 0 < k → goes_on m (length before - w) ≡ true
   pub far : ((i ≡ 0) × (k ≡ first) × (m ≡ n) × (w ≡ at) × (now ≡ before)) ⊎ On input first n before at now m w i k
 
-pub turn-first : (input : List ℕ) (first n : ℕ) (before : List ℕ) (at : ℕ) → first ≤ length input → at ≤ length before → (0 < first → goes_on n (length before - at) ≡ true)
+pub turn_first : (input : List ℕ) (first n : ℕ) (before : List ℕ) (at : ℕ) → first ≤ length input → at ≤ length before → (0 < first → goes_on n (length before - at) ≡ true)
     → Turn input first n before at before n at 0 first
-turn-first input first n before at f l g = record { within = omega arith; same = refl; fits = l; goes = g; far = inl (refl, refl, refl, refl, refl) }
+turn_first input first n before at f l g = record { within = omega arith; same = refl; fits = l; goes = g; far = inl (refl, refl, refl, refl, refl) }
 
 module _ (input : List ℕ) (first n : ℕ) (before : List ℕ) (at : ℕ) (now : List ℕ) (m w i k : ℕ) (t : Turn input first n before at now m w i k) where
   module _ (h : 0 < k) (a : ℕ) (ea : a ≡ answer_of (take k (drop i input))) (row : List ℕ) (v : ℕ) (put : PutLine now w m a row v) where
     -- the first piece
     begins : i ≡ 0 → k ≡ first → m ≡ n → w ≡ at → now ≡ before → Going (take first input ∷ []) n (drop first input) before at row (m + 1) v 0
     begins ei ek em ew en =
-        let l : Lined n before at before n at [] = lined-none n before at (omega (arith, t.fits)) in
-        going-none (take first input ∷ []) n (drop first input) before at row (m + 1) v
-        (rw em (lined-more n before at before n at [] l (take first input) a (ea ∙ rw (ei, ek) refl) (rw (em, ew) at (t.goes h)) row v (rw (em, ew, en) at put)))
+        let l : Lined n before at before n at [] = lined_none n before at (omega (arith, t.fits)) in
+        going_none (take first input ∷ []) n (drop first input) before at row (m + 1) v
+        (rw em (lined_more n before at before n at [] l (take first input) a (ea ∙ rw (ei, ek) refl) (rw (em, ew) at (t.goes h)) row v (rw (em, ew, en) at put)))
 
     -- one behind it
     continues : (o : On input first n before at now m w i k) → Going (take first input ∷ []) n (drop first input) before at row (m + 1) v (o.behind + k)
     continues o =
         let e : drop i input ≡ drop o.behind (drop first input) = ap (λ (x : ℕ). drop x input) o.taken ∙ sym (drop-drop o.behind first input) in
-        going_more (take first input ∷ []) n (drop first input) before at now m w o.behind o.going k (rw e at (next-ends m (length before - w) (drop i input) k o.next h)) a
+        going_more (take first input ∷ []) n (drop first input) before at now m w o.behind o.going k (rw e at (next_ends m (length before - w) (drop i input) k o.next h)) a
         (ea ∙ ap (λ (xs : List ℕ). answer_of (take k xs)) e) (t.goes h) row v put
 
     turned : 0 < first → (behind : ℕ) → i + k ≡ first + behind → Going (take first input ∷ []) n (drop first input) before at row (m + 1) v behind
         → (j : ℕ) → j ≡ next_end (m + 1) (length row - v) (drop (i + k) input) → Turn input first n before at row (m + 1) v (i + k) j
     turned some behind taken going j ej =
-        let same : length row ≡ length before = lined-length n before at row (m + 1) v _ going.lined in
+        let same : length row ≡ length before = lined_length n before at row (m + 1) v _ going.lined in
         let e : j ≡ next_end (m + 1) (length before - v) (drop (i + k) input) = ej ∙ ap (λ (x : ℕ). next_end (m + 1) (x - v) (drop (i + k) input)) same in
         record {
-          within = omega (arith, e, next-within (m + 1) (length before - v) (drop (i + k) input), length-drop (i + k) input, t.within);
+          within = omega (arith, e, next_within (m + 1) (length before - v) (drop (i + k) input), length-drop (i + k) input, t.within);
           same = same;
           fits = going.lined.fits;
-          goes = λ z. next-goes (m + 1) (length before - v) (drop (i + k) input) (omega (arith, e));
+          goes = λ z. next_goes (m + 1) (length before - v) (drop (i + k) input) (omega (arith, e));
           far = inr (record { some = some; behind = behind; taken = taken; going = going; next = e });
         }
 

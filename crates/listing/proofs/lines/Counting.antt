@@ -12,12 +12,12 @@ use lib.Seq.{take-suc, set_at, take_at, take-take, take-append-le, get_or_at, le
 use borrow.Author.Tests.{ne_eqb, lt-ltb}
 use Rattle.wire.specs.Digits.{digits, num, below}
 use Rattle.wire.specs.Packets.{ascii}
-use Rattle.wire.proofs.digits.Laws.{lt-or-le, and_left, below_at, below_both, below-append, below_more, zeros-below, digits-length, digits-below, written, read, num-append}
+use Rattle.wire.proofs.digits.Laws.{lt_or_le, and_left, below_at, below_both, below_append, below_more, zeros_below, digits_length, digits_below, written, read, num_append}
 use Rattle.listing.specs.Listing.{trimmed, in_decimal, all_nines, First, Spelled, PutLine}
 
 -- zeros with one more behind them
-zeros-more : (k : ℕ) → ◌++◌ {A = ℕ} (replicate k 0) (0 ∷ []) ≡ replicate (suc k) 0
-zeros-more k = replicate-append-replicate {A = ℕ} k 1 0 ∙ ap (λ (x : ℕ). replicate x 0) (let e : k + 1 ≡ suc k = omega arith in e)
+zeros_more : (k : ℕ) → ◌++◌ {A = ℕ} (replicate k 0) (0 ∷ []) ≡ replicate (suc k) 0
+zeros_more k = replicate-append-replicate {A = ℕ} k 1 0 ∙ ap (λ (x : ℕ). replicate x 0) (let e : k + 1 ≡ suc k = omega arith in e)
 
 -- DIGITS BY DIVISION
 
@@ -28,19 +28,19 @@ pub record Divided (n : ℕ) (ds : List ℕ) (i left : ℕ) : Type 0 where
   pub above : left ≡ n / 10 ^ found
   pub row : ds ≡ replicate i 0 ++ digits 10 found n
 
-pub divided-none : (n : ℕ) → Divided n (replicate 20 0) 20 n
+pub divided_none : (n : ℕ) → Divided n (replicate 20 0) 20 n
 unfolding digits
-divided-none n = record { found = 0; sum = refl; above = sym (div-one n); row = refl }
+divided_none n = record { found = 0; sum = refl; above = sym (div-one n); row = refl }
 
-pub divided-more : (n : ℕ) (ds : List ℕ) (i left : ℕ) → Divided n ds i left → 0 < i → Divided n (set ds (i - 1) (left % 10)) (i - 1) (left / 10)
+pub divided_more : (n : ℕ) (ds : List ℕ) (i left : ℕ) → Divided n ds i left → 0 < i → Divided n (set ds (i - 1) (left % 10)) (i - 1) (left / 10)
 unfolding digits
-divided-more n ds i left d h =
+divided_more n ds i left d h =
     let m = i - 1 in
     let e : i ≡ suc m = omega arith in
     let split : ds ≡ replicate m 0 ++ (0 ∷ digits 10 d.found n) =
     d.row
     ∙ ap (λ (x : ℕ). replicate x 0 ++ digits 10 d.found n) e
-    ∙ ap (λ (l : List ℕ). l ++ digits 10 d.found n) (sym (zeros-more m))
+    ∙ ap (λ (l : List ℕ). l ++ digits 10 d.found n) (sym (zeros_more m))
     ∙ append_assoc (replicate m 0) (0 ∷ []) (digits 10 d.found n) in
     record {
       found = suc d.found;
@@ -52,46 +52,46 @@ divided-more n ds i left d h =
           ∙ ap (λ (x : ℕ). replicate m 0 ++ (x % 10 ∷ digits 10 d.found n)) d.above;
     }
 
-pub divided-all : (n : ℕ) (ds : List ℕ) (i left : ℕ) → Divided n ds i left → i ≤ 0 → ds ≡ digits 10 20 n
-divided-all n ds i left d h =
+pub divided_all : (n : ℕ) (ds : List ℕ) (i left : ℕ) → Divided n ds i left → i ≤ 0 → ds ≡ digits 10 20 n
+divided_all n ds i left d h =
     d.row
     ∙ ap₂ (λ (x y : ℕ). replicate x 0 ++ digits 10 y n) (let e : i ≡ 0 = omega arith in e) (let e : d.found ≡ 20 = omega (arith, d.sum) in e)
 
 -- THE FIRST DIGIT THAT IS WRITTEN
 
-pub one-more-zero : (ds : List ℕ) (i : ℕ) → i < length ds → take i ds ≡ replicate i 0 → get_or ds i 0 ≡ 0 → take (i + 1) ds ≡ replicate (i + 1) 0
-one-more-zero ds i h z e =
+pub one_more_zero : (ds : List ℕ) (i : ℕ) → i < length ds → take i ds ≡ replicate i 0 → get_or ds i 0 ≡ 0 → take (i + 1) ds ≡ replicate (i + 1) 0
+one_more_zero ds i h z e =
     let s : i + 1 ≡ suc i = omega arith in
     ap (λ (x : ℕ). take x ds) s
     ∙ take-suc ds i 0 h
     ∙ ap₂ (λ (l : List ℕ) (x : ℕ). l ++ (x ∷ [])) z e
-    ∙ zeros-more i
+    ∙ zeros_more i
     ∙ ap (λ (x : ℕ). replicate x 0) (sym s)
 
-trimmed-at : (ds : List ℕ) (first : ℕ) → first < length ds → take first ds ≡ replicate first 0 → (suc first < length ds → 0 < get_or ds first 0) → trimmed ds ≡ drop first ds
+trimmed_at : (ds : List ℕ) (first : ℕ) → first < length ds → take first ds ≡ replicate first 0 → (suc first < length ds → 0 < get_or ds first 0) → trimmed ds ≡ drop first ds
 unfolding trimmed
-trimmed-at [] first l z s = absurd (omega arith)
-trimmed-at (d ∷ []) zero l z s = refl
-trimmed-at (d ∷ []) (suc first) l z s = absurd (omega arith)
-trimmed-at (d ∷ e ∷ ds) zero l z s =
+trimmed_at [] first l z s = absurd (omega arith)
+trimmed_at (d ∷ []) zero l z s = refl
+trimmed_at (d ∷ []) (suc first) l z s = absurd (omega arith)
+trimmed_at (d ∷ e ∷ ds) zero l z s =
     let p : 0 < d = s (omega arith) in
     simp (ne_eqb d 0 (λ q. absurd (omega arith)))
-trimmed-at (d ∷ e ∷ ds) (suc first) l z s =
+trimmed_at (d ∷ e ∷ ds) (suc first) l z s =
     let q : d ≡ 0 = ap (λ (x : List ℕ). get_or x 0 0) z in
-    rw q (trimmed-at (e ∷ ds) first (omega arith) (ap (λ (x : List ℕ). drop 1 x) z) (λ h. s (omega arith)))
+    rw q (trimmed_at (e ∷ ds) first (omega arith) (ap (λ (x : List ℕ). drop 1 x) z) (λ h. s (omega arith)))
 
 -- twenty digits below ten are those of the number that they write
-spelled-digits : (n : ℕ) (ds : List ℕ) (first : ℕ) → Spelled n ds first → ds ≡ digits 10 20 n
-spelled-digits n ds first s =
+spelled_digits : (n : ℕ) (ds : List ℕ) (first : ℕ) → Spelled n ds first → ds ≡ digits 10 20 n
+spelled_digits n ds first s =
     sym (read 10 (omega arith) ds s.each) ∙ ap₂ (λ (k m : ℕ). digits 10 k m) s.count s.number
 
 -- a number's digits from the first on are the number in decimal
-pub spelled-decimal : (n : ℕ) (ds : List ℕ) (first : ℕ) → Spelled n ds first → in_decimal n ≡ ascii (drop first ds)
+pub spelled_decimal : (n : ℕ) (ds : List ℕ) (first : ℕ) → Spelled n ds first → in_decimal n ≡ ascii (drop first ds)
 unfolding in_decimal
-spelled-decimal n ds first s =
+spelled_decimal n ds first s =
     ap ascii
-    (ap trimmed (sym (spelled-digits n ds first s))
-    ∙ trimmed-at ds first (omega (arith, s.count, s.place.within)) s.place.zeros (λ h. s.place.some (omega (arith, s.count))))
+    (ap trimmed (sym (spelled_digits n ds first s))
+    ∙ trimmed_at ds first (omega (arith, s.count, s.place.within)) s.place.zeros (λ h. s.place.some (omega (arith, s.count))))
 
 -- CARRYING
 
@@ -105,12 +105,12 @@ pub record Carried (before now : List ℕ) (i : ℕ) : Type 0 where
   pub was : before ≡ front ++ (digit ∷ replicate nines 9)
   pub row : now ≡ front ++ (digit ∷ replicate nines 0)
 
-last-split : (l : List ℕ) (m : ℕ) → length l ≡ suc m → l ≡ take m l ++ (get_or l m 0 ∷ [])
-last-split l m e = split_at l m 0 (omega arith) ∙ ap (λ (r : List ℕ). take m l ++ (get_or l m 0 ∷ r)) (drop_of_length-le l {i = suc m} (omega arith))
+last_split : (l : List ℕ) (m : ℕ) → length l ≡ suc m → l ≡ take m l ++ (get_or l m 0 ∷ [])
+last_split l m e = split_at l m 0 (omega arith) ∙ ap (λ (r : List ℕ). take m l ++ (get_or l m 0 ∷ r)) (drop_of_length-le l {i = suc m} (omega arith))
 
 pub carried_none : (ds : List ℕ) → length ds ≡ 20 → Carried ds ds 19
 carried_none ds l =
-    let whole : ds ≡ take 19 ds ++ (get_or ds 19 0 ∷ []) = last-split ds 19 l in
+    let whole : ds ≡ take 19 ds ++ (get_or ds 19 0 ∷ []) = last_split ds 19 l in
     record {
       front = take 19 ds;
       digit = get_or ds 19 0;
@@ -121,47 +121,47 @@ carried_none ds l =
       row = whole;
     }
 
-nines-num : (k : ℕ) → suc (num 10 (replicate k 9)) ≡ 10 ^ k
+nines_num : (k : ℕ) → suc (num 10 (replicate k 9)) ≡ 10 ^ k
 unfolding num
-nines-num zero = refl
-nines-num (suc k) = omega (arith, nines-num k, pow-suc 10 k, length-replicate {A = ℕ} k 9, ap (λ (x : ℕ). 10 ^ x) (length-replicate {A = ℕ} k 9))
+nines_num zero = refl
+nines_num (suc k) = omega (arith, nines_num k, pow-suc 10 k, length-replicate {A = ℕ} k 9, ap (λ (x : ℕ). 10 ^ x) (length-replicate {A = ℕ} k 9))
 
-zeros-num : (k : ℕ) → num 10 (replicate k 0) ≡ 0
+zeros_num : (k : ℕ) → num 10 (replicate k 0) ≡ 0
 unfolding num
-zeros-num zero = refl
-zeros-num (suc k) = omega (arith, zeros-num k)
+zeros_num zero = refl
+zeros_num (suc k) = omega (arith, zeros_num k)
 
-carried-digit : (before now : List ℕ) (i : ℕ) (c : Carried before now i) → get_or now i 0 ≡ c.digit
-carried-digit before now i c = ap (λ (l : List ℕ). get_or l i 0) c.row ∙ get_or_at c.front c.digit (replicate c.nines 0) 0 i c.place
+carried_digit : (before now : List ℕ) (i : ℕ) (c : Carried before now i) → get_or now i 0 ≡ c.digit
+carried_digit before now i c = ap (λ (l : List ℕ). get_or l i 0) c.row ∙ get_or_at c.front c.digit (replicate c.nines 0) 0 i c.place
 
-carried-length : (before now : List ℕ) (i : ℕ) → Carried before now i → length now ≡ 20
-carried-length before now i c =
+carried_length : (before now : List ℕ) (i : ℕ) → Carried before now i → length now ≡ 20
+carried_length before now i c =
     omega (arith, ap length c.row, length-append c.front (c.digit ∷ replicate c.nines 0), length-replicate {A = ℕ} c.nines 0, c.place, c.sum)
 
-nines-behind : (front : List ℕ) (k : ℕ) → 10 ^ k ≤ suc (num 10 (front ++ replicate k 9))
-nines-behind front k =
+nines_behind : (front : List ℕ) (k : ℕ) → 10 ^ k ≤ suc (num 10 (front ++ replicate k 9))
+nines_behind front k =
     let m = num 10 front * 10 ^ length (replicate {A = ℕ} k 9) in
-    let e : num 10 (front ++ replicate k 9) ≡ m + num 10 (replicate k 9) = num-append 10 (omega arith) front (replicate k 9) in
-    omega (arith, e, nines-num k)
+    let e : num 10 (front ++ replicate k 9) ≡ m + num 10 (replicate k 9) = num_append 10 (omega arith) front (replicate k 9) in
+    omega (arith, e, nines_num k)
 
 -- at the first place there is no nine: all digits would be nines
-pub carried-inside : (before now : List ℕ) (i : ℕ) → Carried before now i → num 10 before < all_nines → get_or now i 0 ≡ 9 → 0 < i
-carried-inside before now i c h e =
-    let d : c.digit ≡ 9 = sym (carried-digit before now i c) ∙ e in
+pub carried_inside : (before now : List ℕ) (i : ℕ) → Carried before now i → num 10 before < all_nines → get_or now i 0 ≡ 9 → 0 < i
+carried_inside before now i c h e =
+    let d : c.digit ≡ 9 = sym (carried_digit before now i c) ∙ e in
     let w : before ≡ c.front ++ replicate (suc c.nines) 9 = c.was ∙ ap (λ (x : ℕ). c.front ++ (x ∷ replicate c.nines 9)) d in
-    let b : 10 ^ suc c.nines ≤ suc (num 10 before) = rw (← w) at (nines-behind c.front (suc c.nines)) in
+    let b : 10 ^ suc c.nines ≤ suc (num 10 before) = rw (← w) at (nines_behind c.front (suc c.nines)) in
     ⊎_elim
     (λ p. p)
     (λ z. absurd (let p : 10 ^ suc c.nines ≡ 10 ^ 20 = ap (λ (x : ℕ). 10 ^ x) (let k : suc c.nines ≡ 20 = omega (arith, c.sum) in k) in omega (arith, b)))
-    (lt-or-le 0 i)
+    (lt_or_le 0 i)
 
-pub carried-more : (before now : List ℕ) (i : ℕ) → Carried before now i → 0 < i → get_or now i 0 ≡ 9 → Carried before (set now i 0) (i - 1)
-carried-more before now i c h e =
+pub carried_more : (before now : List ℕ) (i : ℕ) → Carried before now i → 0 < i → get_or now i 0 ≡ 9 → Carried before (set now i 0) (i - 1)
+carried_more before now i c h e =
     let m = i - 1 in
     let f = c.front in
-    let d : c.digit ≡ 9 = sym (carried-digit before now i c) ∙ e in
+    let d : c.digit ≡ 9 = sym (carried_digit before now i c) ∙ e in
     let l : m < length f = omega (arith, c.place) in
-    let split : f ≡ take m f ++ (get_or f m 0 ∷ []) = last-split f m (omega (arith, c.place)) in
+    let split : f ≡ take m f ++ (get_or f m 0 ∷ []) = last_split f m (omega (arith, c.place)) in
     record {
       front = take m f;
       digit = get_or f m 0;
@@ -186,31 +186,31 @@ unfolding num
 one_more front d k =
     let p = 10 ^ k in
     let a : num 10 (front ++ (suc d ∷ replicate k 0)) ≡ num 10 front * 10 ^ suc k + (suc d * 10 ^ k + num 10 (replicate k 0)) =
-    num-append 10 (omega arith) front (suc d ∷ replicate k 0) ∙ ap (λ (x : ℕ). num 10 front * 10 ^ suc x + (suc d * 10 ^ x + num 10 (replicate k 0))) (length-replicate {A = ℕ} k 0) in
+    num_append 10 (omega arith) front (suc d ∷ replicate k 0) ∙ ap (λ (x : ℕ). num 10 front * 10 ^ suc x + (suc d * 10 ^ x + num 10 (replicate k 0))) (length-replicate {A = ℕ} k 0) in
     let b : num 10 (front ++ (d ∷ replicate k 9)) ≡ num 10 front * 10 ^ suc k + (d * 10 ^ k + num 10 (replicate k 9)) =
-    num-append 10 (omega arith) front (d ∷ replicate k 9) ∙ ap (λ (x : ℕ). num 10 front * 10 ^ suc x + (d * 10 ^ x + num 10 (replicate k 9))) (length-replicate {A = ℕ} k 9) in
-    omega (arith, a, b, zeros-num k, nines-num k, suc-mul d (10 ^ k))
+    num_append 10 (omega arith) front (d ∷ replicate k 9) ∙ ap (λ (x : ℕ). num 10 front * 10 ^ suc x + (d * 10 ^ x + num 10 (replicate k 9))) (length-replicate {A = ℕ} k 9) in
+    omega (arith, a, b, zeros_num k, nines_num k, suc-mul d (10 ^ k))
 
-take-zeros : (i k : ℕ) → i ≤ k → take {A = ℕ} i (replicate k 0) ≡ replicate i 0
-take-zeros zero k h = refl
-take-zeros (suc i) zero h = absurd (omega arith)
-take-zeros (suc i) (suc k) h = ap (λ (l : List ℕ). 0 ∷ l) (take-zeros i k (omega arith))
+take_zeros : (i k : ℕ) → i ≤ k → take {A = ℕ} i (replicate k 0) ≡ replicate i 0
+take_zeros zero k h = refl
+take_zeros (suc i) zero h = absurd (omega arith)
+take_zeros (suc i) (suc k) h = ap (λ (l : List ℕ). 0 ∷ l) (take_zeros i k (omega arith))
 
 module _ (before now : List ℕ) (first i n : ℕ) (s : Spelled n before first) (c : Carried before now i) (not-nine : get_or now i 0 ≡ 9 → ⊥) where
   -- the digit that gets one more
-  small-digit : c.digit < 9
-  small-digit =
+  small_digit : c.digit < 9
+  small_digit =
       let b : get_or before i 0 < 10 = below_at 10 before s.each i (omega (arith, s.count, c.sum)) in
       let d : get_or before i 0 ≡ c.digit = ap (λ (l : List ℕ). get_or l i 0) c.was ∙ get_or_at c.front c.digit (replicate c.nines 9) 0 i c.place in
-      let x : c.digit ≡ 9 → ⊥ = λ e. not-nine (carried-digit before now i c ∙ e) in
-      ⊎_elim (λ l. l) (λ g. absurd (x (omega arith))) (lt-or-le c.digit 9)
+      let x : c.digit ≡ 9 → ⊥ = λ e. not-nine (carried_digit before now i c ∙ e) in
+      ⊎_elim (λ l. l) (λ g. absurd (x (omega arith))) (lt_or_le c.digit 9)
 
-  pub carried-small : get_or now i 0 < 9
-  carried-small = omega (arith, carried-digit before now i c, small-digit)
+  pub carried_small : get_or now i 0 < 9
+  carried_small = omega (arith, carried_digit before now i c, small_digit)
 
   stored : set now i (get_or now i 0 + 1) ≡ c.front ++ (suc c.digit ∷ replicate c.nines 0)
   stored =
-      ap₂ (λ (l : List ℕ) (x : ℕ). set l i x) c.row (let e : get_or now i 0 + 1 ≡ suc c.digit = omega (arith, carried-digit before now i c) in e)
+      ap₂ (λ (l : List ℕ) (x : ℕ). set l i x) c.row (let e : get_or now i 0 + 1 ≡ suc c.digit = omega (arith, carried_digit before now i c) in e)
       ∙ set_at c.front c.digit (replicate c.nines 0) (suc c.digit) i c.place
 
   front_below : below 10 c.front ≡ true
@@ -218,27 +218,27 @@ module _ (before now : List ℕ) (first i n : ℕ) (s : Spelled n before first) 
       and_left (below 10 c.front) (below 10 (c.digit ∷ replicate c.nines 9))
       (sym (below_both 10 c.front (c.digit ∷ replicate c.nines 9)) ∙ ap (below 10) (sym c.was) ∙ s.each)
 
-  tail-below : below 10 (suc c.digit ∷ replicate c.nines 0) ≡ true
+  tail_below : below 10 (suc c.digit ∷ replicate c.nines 0) ≡ true
   unfolding below
-  tail-below = simp (lt-ltb (suc c.digit) 10 (omega (arith, small-digit)), below_more 1 10 (omega arith) (replicate c.nines 0) (zeros-below c.nines))
+  tail_below = simp (lt-ltb (suc c.digit) 10 (omega (arith, small_digit)), below_more 1 10 (omega arith) (replicate c.nines 0) (zeros_below c.nines))
 
   -- the next number, from any place that is its first
-  spelled-next : (r : ℕ) → First (set now i (get_or now i 0 + 1)) r → Spelled (suc n) (set now i (get_or now i 0 + 1)) r
-  spelled-next r f =
+  spelled_next : (r : ℕ) → First (set now i (get_or now i 0 + 1)) r → Spelled (suc n) (set now i (get_or now i 0 + 1)) r
+  spelled_next r f =
       record {
         number = ap (num 10) stored ∙ one_more c.front c.digit c.nines ∙ ap (λ (l : List ℕ). suc (num 10 l)) (sym c.was) ∙ ap suc s.number;
-        count = length-set now i (get_or now i 0 + 1) ∙ carried-length before now i c;
-        each = ap (below 10) stored ∙ below-append 10 c.front (suc c.digit ∷ replicate c.nines 0) front_below tail-below;
+        count = length-set now i (get_or now i 0 + 1) ∙ carried_length before now i c;
+        each = ap (below 10) stored ∙ below_append 10 c.front (suc c.digit ∷ replicate c.nines 0) front_below tail_below;
         place = f;
       }
 
-  more-at : get_or (set now i (get_or now i 0 + 1)) i 0 ≡ suc c.digit
-  more-at = ap (λ (l : List ℕ). get_or l i 0) stored ∙ get_or_at c.front (suc c.digit) (replicate c.nines 0) 0 i c.place
+  more_at : get_or (set now i (get_or now i 0 + 1)) i 0 ≡ suc c.digit
+  more_at = ap (λ (l : List ℕ). get_or l i 0) stored ∙ get_or_at c.front (suc c.digit) (replicate c.nines 0) 0 i c.place
 
   -- the number has a digit more
-  pub counted-before : i < first → Spelled (suc n) (set now i (get_or now i 0 + 1)) i
-  counted-before h =
-      spelled-next i
+  pub counted_before : i < first → Spelled (suc n) (set now i (get_or now i 0 + 1)) i
+  counted_before h =
+      spelled_next i
       (record {
         within = omega (arith, s.place.within);
         zeros =
@@ -247,20 +247,20 @@ module _ (before now : List ℕ) (first i n : ℕ) (s : Spelled n before first) 
             ∙ sym (ap (take i) c.was ∙ take_at c.front (c.digit ∷ replicate c.nines 9) i c.place)
             ∙ sym (take-take i first before (omega arith))
             ∙ ap (take i) s.place.zeros
-            ∙ take-zeros i first (omega arith);
-        some = λ l. omega (arith, more-at);
+            ∙ take_zeros i first (omega arith);
+        some = λ l. omega (arith, more_at);
       })
 
-  kept-digit : first < i → get_or (set now i (get_or now i 0 + 1)) first 0 ≡ get_or before first 0
-  kept-digit h =
+  kept_digit : first < i → get_or (set now i (get_or now i 0 + 1)) first 0 ≡ get_or before first 0
+  kept_digit h =
       ap (λ (l : List ℕ). get_or l first 0) stored
       ∙ get_or-append c.front (suc c.digit ∷ replicate c.nines 0) 0 first (omega (arith, c.place))
       ∙ sym (ap (λ (l : List ℕ). get_or l first 0) c.was ∙ get_or-append c.front (c.digit ∷ replicate c.nines 9) 0 first (omega (arith, c.place)))
 
   -- or as many as before
-  pub counted-within : first ≤ i → Spelled (suc n) (set now i (get_or now i 0 + 1)) first
-  counted-within h =
-      spelled-next first
+  pub counted_within : first ≤ i → Spelled (suc n) (set now i (get_or now i 0 + 1)) first
+  counted_within h =
+      spelled_next first
       (record {
         within = s.place.within;
         zeros =
@@ -270,25 +270,25 @@ module _ (before now : List ℕ) (first i n : ℕ) (s : Spelled n before first) 
             ∙ s.place.zeros;
         some = λ l.
             ⊎_elim
-            (λ b. omega (arith, kept-digit b, s.place.some l))
+            (λ b. omega (arith, kept_digit b, s.place.some l))
             (λ e. let q : first ≡ i = omega arith in
-            let v : get_or (set now i (get_or now i 0 + 1)) first 0 ≡ suc c.digit = ap (λ (x : ℕ). get_or (set now i (get_or now i 0 + 1)) x 0) q ∙ more-at in
+            let v : get_or (set now i (get_or now i 0 + 1)) first 0 ≡ suc c.digit = ap (λ (x : ℕ). get_or (set now i (get_or now i 0 + 1)) x 0) q ∙ more_at in
             omega (arith, v))
-            (lt-or-le first i);
+            (lt_or_le first i);
       })
 
 -- FOR A CALLER THAT COUNTS
 
-pub found-count : (n : ℕ) (ds : List ℕ) → ds ≡ digits 10 20 n → length ds ≡ 20
-found-count n ds e = ap length e ∙ digits-length 10 (omega arith) 20 n
+pub found_count : (n : ℕ) (ds : List ℕ) → ds ≡ digits 10 20 n → length ds ≡ 20
+found_count n ds e = ap length e ∙ digits_length 10 (omega arith) 20 n
 
 -- the digits found for a number, with the first of them, spell it
 pub begun : (n : ℕ) (ds : List ℕ) (first : ℕ) → n < 18446744073709551616 → ds ≡ digits 10 20 n → First ds first → Spelled n ds first
 begun n ds first h e f =
     record {
       number = ap (num 10) e ∙ written 10 (omega arith) 20 n (let q : n < 10 ^ 20 = omega arith in q);
-      count = found-count n ds e;
-      each = ap (below 10) e ∙ digits-below 10 (omega arith) 20 n;
+      count = found_count n ds e;
+      each = ap (below 10) e ∙ digits_below 10 (omega arith) 20 n;
       place = f;
     }
 
@@ -297,8 +297,8 @@ module _ (n : ℕ) (ds : List ℕ) (first : ℕ) (s : Spelled n ds first) where
   pub own : Spelled (num 10 ds) ds first
   own = rw (← s.number) at s
 
-  pub not-all-nines : n < 18446744073709551615 → num 10 ds < all_nines
-  not-all-nines h = omega (arith, s.number)
+  pub not_all_nines : n < 18446744073709551615 → num 10 ds < all_nines
+  not_all_nines h = omega (arith, s.number)
 
   -- counted up, they spell the next
   pub next : (es : List ℕ) (r : ℕ) → Spelled (suc (num 10 ds)) es r → Spelled (suc n) es r

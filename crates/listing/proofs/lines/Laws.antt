@@ -13,7 +13,7 @@ use lib.Seq.{take_all, take-suc, get_or-drop, take_at, drop_at, drop-drop, lengt
 use borrow.Author.Tests.{ne_eqb}
 use Rattle.wire.specs.Digits.{pick, digits}
 use Rattle.wire.specs.Packets.{ascii}
-use Rattle.wire.proofs.digits.Laws.{digits-length}
+use Rattle.wire.proofs.digits.Laws.{digits_length}
 use Rattle.listing.specs.Listing.{trimmed, in_decimal, line, placed, Put, PutLine}
 
 pos : (k : ℕ) → 0 < 10 ^ k
@@ -21,9 +21,9 @@ pos k = one-le-pow k 10 (omega arith)
 
 -- DIGITS WITHOUT ZEROS IN FRONT
 
-skip-one : (n k : ℕ) → n < 10 ^ suc k → trimmed (digits 10 (suc (suc k)) n) ≡ trimmed (digits 10 (suc k) n)
+skip_one : (n k : ℕ) → n < 10 ^ suc k → trimmed (digits 10 (suc (suc k)) n) ≡ trimmed (digits 10 (suc k) n)
 unfolding trimmed digits
-skip-one n k h = simp (div-eq_of_lt h)
+skip_one n k h = simp (div-eq_of_lt h)
 
 -- digits above a number are zeros
 skip : (m n k : ℕ) → n < 10 ^ suc k → trimmed (digits 10 (m + suc k) n) ≡ trimmed (digits 10 (suc k) n)
@@ -32,12 +32,12 @@ skip (suc m) n k h =
     let e : suc m + suc k ≡ suc (suc (m + k)) = omega arith in
     let f : suc (m + k) ≡ m + suc k = omega arith in
     ap (λ (x : ℕ). trimmed (digits 10 x n)) e
-    ∙ skip-one n (m + k) (lt_of_lt_of_le h (pow-le-pow_right (omega arith) (omega arith)))
+    ∙ skip_one n (m + k) (lt_of_lt_of_le h (pow-le-pow_right (omega arith) (omega arith)))
     ∙ ap (λ (x : ℕ). trimmed (digits 10 x n)) f
     ∙ skip m n k h
 
-first-digit : (n j : ℕ) → 10 ^ suc j ≤ n → n < 10 ^ suc (suc j) → n / 10 ^ suc j % 10 ≡ 0 → ⊥
-first-digit n j l h e =
+first_digit : (n j : ℕ) → 10 ^ suc j ≤ n → n < 10 ^ suc (suc j) → n / 10 ^ suc j % 10 ≡ 0 → ⊥
+first_digit n j l h e =
     let a : 1 ≤ n / 10 ^ suc j = (le-div_iff_mul-le (pos (suc j))).1 (let q : 1 * 10 ^ suc j ≤ n = omega arith in q) in
     let b : n / 10 ^ suc j < 10 = (div-lt_iff_lt-mul (pos (suc j))).1 (let q : n < 10 * 10 ^ suc j = rw (mul_comm 10 (10 ^ suc j), ← pow-suc 10 (suc j)) h in q) in
     omega arith
@@ -45,16 +45,16 @@ first-digit n j l h e =
 no_zero : (n k : ℕ) → n < 10 ^ suc k → ((j : ℕ) → suc k ≡ suc (suc j) → 10 ^ suc j ≤ n) → trimmed (digits 10 (suc k) n) ≡ digits 10 (suc k) n
 unfolding trimmed digits
 no_zero n zero h l = refl
-no_zero n (suc j) h l = simp (ne_eqb (n / 10 ^ suc j % 10) 0 (first-digit n j (l j refl) h))
+no_zero n (suc j) h l = simp (ne_eqb (n / 10 ^ suc j % 10) 0 (first_digit n j (l j refl) h))
 
 -- n has suc k digits
 decimal : (m k n : ℕ) → m + suc k ≡ 20 → n < 10 ^ suc k → ((j : ℕ) → suc k ≡ suc (suc j) → 10 ^ suc j ≤ n) → in_decimal n ≡ ascii (digits 10 (suc k) n)
 unfolding in_decimal
 decimal m k n e h l = ap ascii (ap (λ (x : ℕ). trimmed (digits 10 x n)) (sym e) ∙ skip m n k h ∙ no_zero n k h l)
 
-pub one-digit : (n : ℕ) → n < 10 → in_decimal n ≡ (48 + n) ∷ []
+pub one_digit : (n : ℕ) → n < 10 → in_decimal n ≡ (48 + n) ∷ []
 unfolding digits ascii
-one-digit n h = decimal 19 0 n refl (let q : n < 10 ^ 1 = omega arith in q) (λ j e. absurd (omega arith)) ∙ ap (λ (x : ℕ). (48 + x) ∷ []) (let e : n / 10 ^ 0 % 10 ≡ n = omega arith in e)
+one_digit n h = decimal 19 0 n refl (let q : n < 10 ^ 1 = omega arith in q) (λ j e. absurd (omega arith)) ∙ ap (λ (x : ℕ). (48 + x) ∷ []) (let e : n / 10 ^ 0 % 10 ≡ n = omega arith in e)
 
 pub two_digits : (n : ℕ) → 10 ≤ n → n < 100 → in_decimal n ≡ (48 + n / 10) ∷ (48 + n % 10) ∷ []
 unfolding digits ascii
@@ -62,54 +62,54 @@ two_digits n g h =
     decimal 18 1 n refl (let q : n < 10 ^ 2 = omega arith in q) (λ j e. let z : j ≡ 0 = omega arith in rw z (let q : 10 ^ 1 ≤ n = omega arith in q))
     ∙ ap₂ (λ (x y : ℕ). (48 + x) ∷ (48 + y) ∷ []) (let e : n / 10 ^ 1 % 10 ≡ n / 10 = omega arith in e) (let e : n / 10 ^ 0 % 10 ≡ n % 10 = omega arith in e)
 
-pub three-digits : (n : ℕ) → 100 ≤ n → n < 256 → in_decimal n ≡ (48 + n / 100) ∷ (48 + n / 10 % 10) ∷ (48 + n % 10) ∷ []
+pub three_digits : (n : ℕ) → 100 ≤ n → n < 256 → in_decimal n ≡ (48 + n / 100) ∷ (48 + n / 10 % 10) ∷ (48 + n % 10) ∷ []
 unfolding digits ascii
-three-digits n g h =
+three_digits n g h =
     decimal 17 2 n refl (let q : n < 10 ^ 3 = omega arith in q) (λ j e. let z : j ≡ 1 = omega arith in rw z (let q : 10 ^ 2 ≤ n = omega arith in q))
     ∙ ap₂ (λ (x : ℕ) (l : List ℕ). (48 + x) ∷ l) (let e : n / 10 ^ 2 % 10 ≡ n / 100 = omega arith in e)
     (ap₂ (λ (x y : ℕ). (48 + x) ∷ (48 + y) ∷ []) (let e : n / 10 ^ 1 % 10 ≡ n / 10 % 10 = omega arith in e) (let e : n / 10 ^ 0 % 10 ≡ n % 10 = omega arith in e))
 
 -- LENGTHS
 
-ascii-length : (ds : List ℕ) → length (ascii ds) ≡ length ds
+ascii_length : (ds : List ℕ) → length (ascii ds) ≡ length ds
 unfolding ascii
-ascii-length [] = refl
-ascii-length (d ∷ ds) = ap suc (ascii-length ds)
+ascii_length [] = refl
+ascii_length (d ∷ ds) = ap suc (ascii_length ds)
 
-trimmed-step : (t : Bool) (a b : List ℕ) → length a ≤ length b → length (pick t a b) ≤ length b
-trimmed-step true a b h = h
-trimmed-step false a b h = omega arith
+trimmed_step : (t : Bool) (a b : List ℕ) → length a ≤ length b → length (pick t a b) ≤ length b
+trimmed_step true a b h = h
+trimmed_step false a b h = omega arith
 
-trimmed-length : (ds : List ℕ) → length (trimmed ds) ≤ length ds
+trimmed_length : (ds : List ℕ) → length (trimmed ds) ≤ length ds
 unfolding trimmed
-trimmed-length [] = omega arith
-trimmed-length (d ∷ []) = omega arith
-trimmed-length (d ∷ e ∷ ds) = trimmed-step (eqb d 0) (trimmed (e ∷ ds)) (d ∷ e ∷ ds) (omega (arith, trimmed-length (e ∷ ds)))
+trimmed_length [] = omega arith
+trimmed_length (d ∷ []) = omega arith
+trimmed_length (d ∷ e ∷ ds) = trimmed_step (eqb d 0) (trimmed (e ∷ ds)) (d ∷ e ∷ ds) (omega (arith, trimmed_length (e ∷ ds)))
 
-pub decimal-length : (n : ℕ) → length (in_decimal n) ≤ 20
+pub decimal_length : (n : ℕ) → length (in_decimal n) ≤ 20
 unfolding in_decimal
-decimal-length n = omega (arith, ascii-length (trimmed (digits 10 20 n)), trimmed-length (digits 10 20 n), digits-length 10 (omega arith) 20 n)
+decimal_length n = omega (arith, ascii_length (trimmed (digits 10 20 n)), trimmed_length (digits 10 20 n), digits_length 10 (omega arith) 20 n)
 
-pub byte-length : (n : ℕ) → n < 256 → length (in_decimal n) ≤ 3
+pub byte_length : (n : ℕ) → n < 256 → length (in_decimal n) ≤ 3
 unfolding in_decimal
-byte-length n h =
+byte_length n h =
     let e : trimmed (digits 10 20 n) ≡ trimmed (digits 10 3 n) = skip 17 n 2 (let q : n < 10 ^ 3 = omega arith in q) in
-    omega (arith, ascii-length (trimmed (digits 10 20 n)), ap length e, trimmed-length (digits 10 3 n), digits-length 10 (omega arith) 3 n)
+    omega (arith, ascii_length (trimmed (digits 10 20 n)), ap length e, trimmed_length (digits 10 3 n), digits_length 10 (omega arith) 3 n)
 
 -- TEXTS IN A ROW
 
 module _ (row : List ℕ) (at : ℕ) where
-  pub put-none : placed row at [] ≡ row
-  put-none = ap (λ (x : ℕ). take at row ++ drop x row) (let e : at + 0 ≡ at = omega arith in e) ∙ take-append-drop at row
+  pub put_none : placed row at [] ≡ row
+  put_none = ap (λ (x : ℕ). take at row ++ drop x row) (let e : at + 0 ≡ at = omega arith in e) ∙ take-append-drop at row
 
-  pub placed-length : (text : List ℕ) → at + length text ≤ length row → length (placed row at text) ≡ length row
-  placed-length text h =
+  pub placed_length : (text : List ℕ) → at + length text ≤ length row → length (placed row at text) ≡ length row
+  placed_length text h =
       omega
       (arith, length-append (take at row) (text ++ drop (at + length text) row), length-append text (drop (at + length text) row), length-take-le at row (omega arith), length-drop (at + length text) row)
 
   -- a text behind another one
-  pub placed-twice : (s t : List ℕ) → at + length s + length t ≤ length row → placed (placed row at s) (at + length s) t ≡ placed row at (s ++ t)
-  placed-twice s t h =
+  pub placed_twice : (s t : List ℕ) → at + length s + length t ≤ length row → placed (placed row at s) (at + length s) t ≡ placed row at (s ++ t)
+  placed_twice s t h =
       let front = take at row ++ s in
       let behind = drop (at + length s) row in
       let size : length front ≡ at + length s = omega (arith, length-append (take at row) s, length-take-le at row (omega arith)) in
@@ -124,34 +124,34 @@ module _ (row : List ℕ) (at : ℕ) where
       ∙ append_assoc (take at row) s (t ++ drop (at + length (s ++ t)) row)
       ∙ ap (λ (l : List ℕ). take at row ++ l) (sym (append_assoc s t (drop (at + length (s ++ t)) row)))
 
-  placed-byte : (b : ℕ) → at < length row → set row at b ≡ placed row at (b ∷ [])
-  placed-byte b h = set_split row at b h ∙ ap (λ (x : ℕ). take at row ++ (b ∷ drop x row)) (sym (add-one at))
+  placed_byte : (b : ℕ) → at < length row → set row at b ≡ placed row at (b ∷ [])
+  placed_byte b h = set_split row at b h ∙ ap (λ (x : ℕ). take at row ++ (b ∷ drop x row)) (sym (add-one at))
 
 -- one text behind another
-put-twice : (a b c : List ℕ) (at r q : ℕ) (s t : List ℕ) → Put a at s b r → Put b r t c q → at + length s + length t ≤ length a → Put a at (s ++ t) c q
-put-twice a b c at r q s t x y h =
+put_twice : (a b c : List ℕ) (at r q : ℕ) (s t : List ℕ) → Put a at s b r → Put b r t c q → at + length s + length t ≤ length a → Put a at (s ++ t) c q
+put_twice a b c at r q s t x y h =
     record {
-      row = y.row ∙ ap₂ (λ (l : List ℕ) (n : ℕ). placed l n t) x.row x.behind ∙ placed-twice a at s t h;
+      row = y.row ∙ ap₂ (λ (l : List ℕ) (n : ℕ). placed l n t) x.row x.behind ∙ placed_twice a at s t h;
       behind = omega (arith, y.behind, x.behind, length-append s t);
     }
 
 -- bytes stored one behind the other
 pub stored_one : (row : List ℕ) (at x : ℕ) → at < length row → Put row at (x ∷ []) (set row at x) (at + 1)
-stored_one row at x h = record { row = placed-byte row at x h; behind = refl }
+stored_one row at x h = record { row = placed_byte row at x h; behind = refl }
 
-pub stored-two : (row : List ℕ) (at x y : ℕ) → at + 2 ≤ length row → Put row at (x ∷ y ∷ []) (set (set row at x) (at + 1) y) (at + 2)
-stored-two row at x y h =
+pub stored_two : (row : List ℕ) (at x y : ℕ) → at + 2 ≤ length row → Put row at (x ∷ y ∷ []) (set (set row at x) (at + 1) y) (at + 2)
+stored_two row at x y h =
     let z : at + 1 + 1 ≡ at + 2 = omega arith in
     rw z at
-    (put-twice row (set row at x) (set (set row at x) (at + 1) y) at (at + 1) (at + 1 + 1) (x ∷ []) (y ∷ []) (stored_one row at x (omega arith))
+    (put_twice row (set row at x) (set (set row at x) (at + 1) y) at (at + 1) (at + 1 + 1) (x ∷ []) (y ∷ []) (stored_one row at x (omega arith))
     (stored_one (set row at x) (at + 1) y (omega (arith, length-set row at x))) (omega arith))
 
-pub stored-three : (row : List ℕ) (at x y z : ℕ) → at + 3 ≤ length row → Put row at (x ∷ y ∷ z ∷ []) (set (set (set row at x) (at + 1) y) (at + 2) z) (at + 3)
-stored-three row at x y z h =
+pub stored_three : (row : List ℕ) (at x y z : ℕ) → at + 3 ≤ length row → Put row at (x ∷ y ∷ z ∷ []) (set (set (set row at x) (at + 1) y) (at + 2) z) (at + 3)
+stored_three row at x y z h =
     let two = set (set row at x) (at + 1) y in
     let e : at + 2 + 1 ≡ at + 3 = omega arith in
     rw e at
-    (put-twice row two (set two (at + 2) z) at (at + 2) (at + 2 + 1) (x ∷ y ∷ []) (z ∷ []) (stored-two row at x y (omega arith))
+    (put_twice row two (set two (at + 2) z) at (at + 2) (at + 2 + 1) (x ∷ y ∷ []) (z ∷ []) (stored_two row at x y (omega arith))
     (stored_one two (at + 2) z (omega (arith, length-set row at x, length-set (set row at x) (at + 1) y))) (omega arith))
 
 -- DIGITS IN A ROW
@@ -180,22 +180,22 @@ module _ (ds : List ℕ) (first : ℕ) (before : List ℕ) (at : ℕ) where
         count = l;
         few = f;
         fits = h;
-        put = record { row = sym (put-none before at); behind = omega arith };
+        put = record { row = sym (put_none before at); behind = omega arith };
       }
 
   module _ (now : List ℕ) (i to : ℕ) (c : Copied ds first before at now i to) where
-    text-length : length (ascii (take c.done (drop first ds))) ≡ c.done
-    text-length =
-        ascii-length (take c.done (drop first ds))
+    text_length : length (ascii (take c.done (drop first ds))) ≡ c.done
+    text_length =
+        ascii_length (take c.done (drop first ds))
         ∙ length-take-le c.done (drop first ds) (omega (arith, length-drop first ds, c.count, c.few, c.sum))
 
-    pub copied-place : to + (20 - i) ≤ length before
-    copied-place = omega (arith, text-length, c.put.behind, length-drop first ds, c.count, c.few, c.sum, c.fits)
+    pub copied_place : to + (20 - i) ≤ length before
+    copied_place = omega (arith, text_length, c.put.behind, length-drop first ds, c.count, c.few, c.sum, c.fits)
 
-    pub copied-length : length now ≡ length before
-    copied-length =
+    pub copied_length : length now ≡ length before
+    copied_length =
         ap length c.put.row
-        ∙ placed-length before at (ascii (take c.done (drop first ds))) (omega (arith, text-length, length-drop first ds, c.count, c.few, c.sum, c.fits))
+        ∙ placed_length before at (ascii (take c.done (drop first ds))) (omega (arith, text_length, length-drop first ds, c.count, c.few, c.sum, c.fits))
 
     pub copied_more : i < 20 → Copied ds first before at (set now to (48 + get_or ds i 0)) (i + 1) (to + 1)
     unfolding ascii
@@ -203,7 +203,7 @@ module _ (ds : List ℕ) (first : ℕ) (before : List ℕ) (at : ℕ) where
         let k = c.done in
         let rest = drop first ds in
         let size : length rest ≡ 20 - first = omega (arith, length-drop first ds, c.count) in
-        let byte = stored_one now to (48 + get_or ds i 0) (omega (arith, copied-place, copied-length)) in
+        let byte = stored_one now to (48 + get_or ds i 0) (omega (arith, copied_place, copied_length)) in
         let digit : get_or rest k 0 ≡ get_or ds i 0 = get_or-drop first ds k 0 ∙ ap (λ (x : ℕ). get_or ds x 0) c.sum in
         let one_more : ascii (take k rest) ++ ((48 + get_or ds i 0) ∷ []) ≡ ascii (take (suc k) rest) =
         ap (λ (x : ℕ). ascii (take k rest) ++ ((48 + x) ∷ [])) (sym digit)
@@ -216,8 +216,8 @@ module _ (ds : List ℕ) (first : ℕ) (before : List ℕ) (at : ℕ) where
           fits = c.fits;
           put =
               rw one_more at
-              (put-twice before now (set now to (48 + get_or ds i 0)) at to (to + 1) (ascii (take k rest)) ((48 + get_or ds i 0) ∷ []) c.put byte
-              (omega (arith, text-length, c.sum, c.fits)));
+              (put_twice before now (set now to (48 + get_or ds i 0)) at to (to + 1) (ascii (take k rest)) ((48 + get_or ds i 0) ∷ []) c.put byte
+              (omega (arith, text_length, c.sum, c.fits)));
         }
 
     pub copied_all : 20 ≤ i → Put before at (ascii (drop first ds)) now to
@@ -226,16 +226,16 @@ module _ (ds : List ℕ) (first : ℕ) (before : List ℕ) (at : ℕ) where
         rw all at c.put
 
 -- the four texts of a line
-pub put-line : (a b c d e : List ℕ) (at p q r s n answer : ℕ) → at + 25 ≤ length a → answer < 256 →
+pub put_line_lem : (a b c d e : List ℕ) (at p q r s n answer : ℕ) → at + 25 ≤ length a → answer < 256 →
     Put a at (in_decimal n) b p → Put b p (0x20 ∷ []) c q → Put c q (in_decimal answer) d r → Put d r (0x0A ∷ []) e s → PutLine a at n answer e s
 unfolding line
-put-line a b c d e at p q r s n answer h l w x y z =
-    let f = decimal-length n in
-    let g = byte-length answer l in
-    let two = put-twice a b c at p q (in_decimal n) (0x20 ∷ []) w x (omega arith) in
-    let three = put-twice a c d at q r (in_decimal n ++ (0x20 ∷ [])) (in_decimal answer) two y (omega (arith, length-append (in_decimal n) (0x20 ∷ []))) in
+put_line_lem a b c d e at p q r s n answer h l w x y z =
+    let f = decimal_length n in
+    let g = byte_length answer l in
+    let two = put_twice a b c at p q (in_decimal n) (0x20 ∷ []) w x (omega arith) in
+    let three = put_twice a c d at q r (in_decimal n ++ (0x20 ∷ [])) (in_decimal answer) two y (omega (arith, length-append (in_decimal n) (0x20 ∷ []))) in
     let four =
-    put-twice a d e at r s ((in_decimal n ++ (0x20 ∷ [])) ++ in_decimal answer) (0x0A ∷ []) three z
+    put_twice a d e at r s ((in_decimal n ++ (0x20 ∷ [])) ++ in_decimal answer) (0x0A ∷ []) three z
     (omega (arith, length-append (in_decimal n ++ (0x20 ∷ [])) (in_decimal answer), length-append (in_decimal n) (0x20 ∷ []))) in
     record {
       put = rw (append_assoc (in_decimal n ++ (0x20 ∷ [])) (in_decimal answer) (0x0A ∷ []), append_assoc (in_decimal n) (0x20 ∷ []) (in_decimal answer ++ (0x0A ∷ []))) at four;

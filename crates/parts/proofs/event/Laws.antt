@@ -9,113 +9,113 @@ use lib.Dec.{ltb, eqb}
 use borrow.Author.Tests.{eq-eqb, lt-ltb}
 use Rattle.wire.specs.Digits.{below, pick}
 use Rattle.wire.specs.Words.{zero_words, read_words}
-use Rattle.wire.proofs.digits.Laws.{and_both, zeros-below}
+use Rattle.wire.proofs.digits.Laws.{and_both, zeros_below}
 use Rattle.parts.specs.declared.event.Event.{Event}
 use Rattle.parts.specs.Events.{keeps_first, clear_event, latch_lawful, control_lawful, event_lawful, control_written, opened, captured, counted, edge_taken}
 
 -- two latches of zeros are lawful
-pub latches-zero : (ws vs : List ℕ) → below 1 ws ≡ true → below 1 vs ≡ true → (latch_lawful ws && latch_lawful vs) ≡ true
+pub latches_zero : (ws vs : List ℕ) → below 1 ws ≡ true → below 1 vs ≡ true → (latch_lawful ws && latch_lawful vs) ≡ true
 unfolding latch_lawful
-latches-zero ws vs e f = simp (e, f)
+latches_zero ws vs e f = simp (e, f)
 
 -- the event input's ranges
-pub event-is : (e : Event) → event_lawful e ≡ (control_lawful e.control e.closed && latch_lawful e.latch)
+pub event_is : (e : Event) → event_lawful e ≡ (control_lawful e.control e.closed && latch_lawful e.latch)
 unfolding event_lawful
-event-is e = refl
+event_is e = refl
 
-pub event-parts : (e : Event) → event_lawful e ≡ true → (control_lawful e.control e.closed ≡ true) × (latch_lawful e.latch ≡ true)
+pub event_parts : (e : Event) → event_lawful e ≡ true → (control_lawful e.control e.closed ≡ true) × (latch_lawful e.latch ≡ true)
 unfolding event_lawful
-event-parts e h = and_both (control_lawful e.control e.closed) (latch_lawful e.latch) h
+event_parts e h = and_both (control_lawful e.control e.closed) (latch_lawful e.latch) h
 
-pub event-lawful : (e : Event) → control_lawful e.control e.closed ≡ true → latch_lawful e.latch ≡ true → event_lawful e ≡ true
+pub event_lawful_lem : (e : Event) → control_lawful e.control e.closed ≡ true → latch_lawful e.latch ≡ true → event_lawful e ≡ true
 unfolding event_lawful
-event-lawful e k l = simp (k, l)
+event_lawful_lem e k l = simp (k, l)
 
 -- CONTROL's own range, and bit 2 beside a closed latch
-control-parts : (control : ℕ) (closed : Bool) → control_lawful control closed ≡ true → (ltb control 8 ≡ true) × ((not closed || keeps_first control) ≡ true)
+control_parts : (control : ℕ) (closed : Bool) → control_lawful control closed ≡ true → (ltb control 8 ≡ true) × ((not closed || keeps_first control) ≡ true)
 unfolding control_lawful
-control-parts control closed h = and_both (ltb control 8) (not closed || keeps_first control) h
+control_parts control closed h = and_both (ltb control 8) (not closed || keeps_first control) h
 
-pub closed-keeps : (e : Event) → event_lawful e ≡ true → e.closed ≡ true → keeps_first e.control ≡ true
-closed-keeps e h k = go e.closed k (control-parts e.control e.closed (event-parts e h).0).1
+pub closed_keeps : (e : Event) → event_lawful e ≡ true → e.closed ≡ true → keeps_first e.control ≡ true
+closed_keeps e h k = go e.closed k (control_parts e.control e.closed (event_parts e h).0).1
   where
     go : (t : Bool) → t ≡ true → (not t || keeps_first e.control) ≡ true → keeps_first e.control ≡ true
     go true k f = f
     go false k f = absurd (let z : ◌≡◌ {A = ℕ} 0 1 = cc in omega arith)
 
 -- an open latch is lawful beside any CONTROL in its range, and so is one that is closed just with bit 2
-open-fits : (control : ℕ) → ltb control 8 ≡ true → control_lawful control false ≡ true
+open_fits : (control : ℕ) → ltb control 8 ≡ true → control_lawful control false ≡ true
 unfolding control_lawful
-open-fits control l = simp l
+open_fits control l = simp l
 
-own-fits : (t : Bool) → (not t || t) ≡ true
-own-fits true = refl
-own-fits false = refl
+own_fits : (t : Bool) → (not t || t) ≡ true
+own_fits true = refl
+own_fits false = refl
 
-kept-fits : (control : ℕ) → ltb control 8 ≡ true → control_lawful control (keeps_first control) ≡ true
+kept_fits : (control : ℕ) → ltb control 8 ≡ true → control_lawful control (keeps_first control) ≡ true
 unfolding control_lawful
-kept-fits control l = simp l (own-fits (keeps_first control))
+kept_fits control l = simp l (own_fits (keeps_first control))
 
 -- bit 2 of a value is that of the CONTROL that it leaves
-pub bit-written : (v : ℕ) → keeps_first (v % 8) ≡ keeps_first v
-bit-written v = ap (λ (n : ℕ). eqb n 1) {x = v % 8 / 4 % 2} {y = v / 4 % 2} (omega arith)
+pub bit_written : (v : ℕ) → keeps_first (v % 8) ≡ keeps_first v
+bit_written v = ap (λ (n : ℕ). eqb n 1) {x = v % 8 / 4 % 2} {y = v / 4 % 2} (omega arith)
 
-written-fits : (closed : Bool) (v : ℕ) → control_lawful (v % 8) (closed && keeps_first v) ≡ true
-written-fits true v = ap (control_lawful (v % 8)) (sym (bit-written v)) ∙ kept-fits (v % 8) (lt-ltb (v % 8) 8 (omega arith))
-written-fits false v = open-fits (v % 8) (lt-ltb (v % 8) 8 (omega arith))
+written_fits : (closed : Bool) (v : ℕ) → control_lawful (v % 8) (closed && keeps_first v) ≡ true
+written_fits true v = ap (control_lawful (v % 8)) (sym (bit_written v)) ∙ kept_fits (v % 8) (lt-ltb (v % 8) 8 (omega arith))
+written_fits false v = open_fits (v % 8) (lt-ltb (v % 8) 8 (omega arith))
 
 -- words that read are lawful in a latch, and so are five zero words
-pub read-lawful : (ws : List ℕ) → (read_words ws).number ≡ 0 → latch_lawful ws ≡ true
+pub read_lawful : (ws : List ℕ) → (read_words ws).number ≡ 0 → latch_lawful ws ≡ true
 unfolding latch_lawful
-read-lawful ws e = simp (eq-eqb _ _ e, or-true)
+read_lawful ws e = simp (eq-eqb _ _ e, or-true)
 
 pub zero_lawful : latch_lawful zero_words ≡ true
 unfolding latch_lawful
-zero_lawful = simp (zeros-below 5)
+zero_lawful = simp (zeros_below 5)
 
 -- so is what a reset leaves
-pub reset-lawful : event_lawful clear_event ≡ true
-reset-lawful = event-lawful _ (open-fits 0 refl) zero_lawful
+pub reset_lawful : event_lawful clear_event ≡ true
+reset_lawful = event_lawful_lem _ (open_fits 0 refl) zero_lawful
 
 -- what a matching edge leaves of a closed latch, and of an open one
 module _ (e : Event) (ws : List ℕ) where
-  pub edge-counts : e.closed ≡ true → edge_taken e ws ≡ counted e
+  pub edge_counts : e.closed ≡ true → edge_taken e ws ≡ counted e
   unfolding edge_taken
-  edge-counts h = ap (λ (t : Bool). pick t (counted e) (captured e ws)) h
+  edge_counts h = ap (λ (t : Bool). pick t (counted e) (captured e ws)) h
 
-  pub edge-captures : e.closed ≡ false → edge_taken e ws ≡ captured e ws
+  pub edge_captures : e.closed ≡ false → edge_taken e ws ≡ captured e ws
   unfolding edge_taken
-  edge-captures h = ap (λ (t : Bool). pick t (counted e) (captured e ws)) h
+  edge_captures h = ap (λ (t : Bool). pick t (counted e) (captured e ws)) h
 
-  abbrev with-missed : ℕ → Event
-  with-missed n = record { control = e.control; closed = e.closed; missed = n; latch = e.latch }
+  abbrev with_missed : ℕ → Event
+  with_missed n = record { control = e.control; closed = e.closed; missed = n; latch = e.latch }
 
   -- as the code has it: one more, none more at 65,535, and the words
-  pub counts : e.closed ≡ true → e.missed < 65535 → with-missed (e.missed + 1) ≡ edge_taken e ws
-  counts h l = ap with-missed (let m : e.missed + 1 ≡ min 65535 (e.missed + 1) = sym (min-eq_right (omega (arith, l))) in m) ∙ sym (edge-counts h)
+  pub counts : e.closed ≡ true → e.missed < 65535 → with_missed (e.missed + 1) ≡ edge_taken e ws
+  counts h l = ap with_missed (let m : e.missed + 1 ≡ min 65535 (e.missed + 1) = sym (min-eq_right (omega (arith, l))) in m) ∙ sym (edge_counts h)
 
   pub holds : e.closed ≡ true → 65535 ≤ e.missed → e.missed ≤ 65535 → e ≡ edge_taken e ws
-  holds h l m = ap with-missed (let k : e.missed ≡ min 65535 (e.missed + 1) = sym (min-eq_left (omega (arith, l)) ∙ omega (arith, l, m)) in k) ∙ sym (edge-counts h)
+  holds h l m = ap with_missed (let k : e.missed ≡ min 65535 (e.missed + 1) = sym (min-eq_left (omega (arith, l)) ∙ omega (arith, l, m)) in k) ∙ sym (edge_counts h)
 
   pub captures : e.closed ≡ false → (vs : List ℕ) → vs ≡ ws → captured e vs ≡ edge_taken e ws
-  captures h vs q = ap (captured e) q ∙ sym (edge-captures h)
+  captures h vs q = ap (captured e) q ∙ sym (edge_captures h)
 
 -- a lawful event input stays lawful: CONTROL written, the latch opened, an edge taken
 module _ (e : Event) (h : event_lawful e ≡ true) where
   abbrev small : ltb e.control 8 ≡ true
-  small = (control-parts e.control e.closed (event-parts e h).0).0
+  small = (control_parts e.control e.closed (event_parts e h).0).0
 
-  pub control-lawful : (v : ℕ) → event_lawful (control_written e v) ≡ true
-  control-lawful v =
-      event-lawful _ (written-fits e.closed v) (event-parts e h).1
+  pub control_lawful_lem : (v : ℕ) → event_lawful (control_written e v) ≡ true
+  control_lawful_lem v =
+      event_lawful_lem _ (written_fits e.closed v) (event_parts e h).1
 
-  pub opened-lawful : event_lawful (opened e) ≡ true
-  opened-lawful = event-lawful _ (open-fits e.control small) (event-parts e h).1
+  pub opened_lawful : event_lawful (opened e) ≡ true
+  opened_lawful = event_lawful_lem _ (open_fits e.control small) (event_parts e h).1
 
-  pub edge-lawful : (ws : List ℕ) → latch_lawful ws ≡ true → event_lawful (edge_taken e ws) ≡ true
+  pub edge_lawful : (ws : List ℕ) → latch_lawful ws ≡ true → event_lawful (edge_taken e ws) ≡ true
   unfolding edge_taken
-  edge-lawful ws l = go e.closed refl
+  edge_lawful ws l = go e.closed refl
     where
       go : (t : Bool) → e.closed ≡ t → event_lawful (pick t (counted e) (captured e ws)) ≡ true
-      go true k = event-lawful _ (event-parts e h).0 (event-parts e h).1
-      go false k = event-lawful _ (kept-fits e.control small) l
+      go true k = event_lawful_lem _ (event_parts e h).0 (event_parts e h).1
+      go false k = event_lawful_lem _ (kept_fits e.control small) l

@@ -8,7 +8,7 @@ use native.Mathlib.Omega.{arith}
 use borrow.Author.Tests.{ltb-true, eqb-false, ne_eqb}
 use lib.Dec.{eqb, ltb, lit<}
 use Rattle.wire.specs.Digits.{pick}
-use Rattle.wire.proofs.digits.Laws.{lt-or-le, and_left, and_right, and_both}
+use Rattle.wire.proofs.digits.Laws.{lt_or_le, and_left, and_right, and_both}
 use Rattle.parts.specs.declared.interrupts.Interrupts.{Interrupts}
 use Rattle.parts.specs.Pending.{bit, raised, lowered, cleared, meet, Shared}
 use Rattle.parts.specs.Interrupts.{sources_raised, source_of, line_up}
@@ -19,30 +19,30 @@ unfoldable all : ℕ → (ℕ → Bool) → Bool
 all zero f = true
 all (suc n) f = f n && all n f
 
-all-at : (n : ℕ) (f : ℕ → Bool) → all n f ≡ true → (x : ℕ) → x < n → f x ≡ true
+all_at : (n : ℕ) (f : ℕ → Bool) → all n f ≡ true → (x : ℕ) → x < n → f x ≡ true
 unfolding all
-all-at zero f h x l = absurd (omega arith)
-all-at (suc n) f h x l =
-    ⊎_elim (λ (m : x < n). all-at n f (and_right (f n) (all n f) h) x m)
-    (λ (m : n ≤ x). ap f {x = x} {y = n} (omega arith) ∙ and_left (f n) (all n f) h) (lt-or-le x n)
+all_at zero f h x l = absurd (omega arith)
+all_at (suc n) f h x l =
+    ⊎_elim (λ (m : x < n). all_at n f (and_right (f n) (all n f) h) x m)
+    (λ (m : n ≤ x). ap f {x = x} {y = n} (omega arith) ∙ and_left (f n) (all n f) h) (lt_or_le x n)
 
 same : Bool → Bool → Bool
 same true t = t
 same false t = not t
 
-same-is : (s t : Bool) → same s t ≡ true → s ≡ t
+same_is : (s t : Bool) → same s t ≡ true → s ≡ t
 unfolding same
-same-is true true e = refl
-same-is false false e = refl
-same-is true false e = sym e
-same-is false true e = e
+same_is true true e = refl
+same_is false false e = refl
+same_is true false e = sym e
+same_is false true e = e
 
 -- a test of every bit i, every bit j and every number
 abbrev everywhere : (ℕ → ℕ → ℕ → Bool) → Bool
 everywhere f = all 5 (λ (i : ℕ). all 5 (λ (j : ℕ). all 32 (f i j)))
 
 at : (f : ℕ → ℕ → ℕ → Bool) → everywhere f ≡ true → (i j x : ℕ) → i < 5 → j < 5 → x < 32 → f i j x ≡ true
-at f h i j x a b l = all-at 32 (f i j) (all-at 5 (λ (j : ℕ). all 32 (f i j)) (all-at 5 (λ (i : ℕ). all 5 (λ (j : ℕ). all 32 (f i j))) h i a) j b) x l
+at f h i j x a b l = all_at 32 (f i j) (all_at 5 (λ (j : ℕ). all 32 (f i j)) (all_at 5 (λ (i : ℕ). all 5 (λ (j : ℕ). all 32 (f i j))) h i a) j b) x l
 
 -- ---- one bit raised
 
@@ -50,26 +50,26 @@ at f h i j x a b l = all-at 32 (f i j) (all-at 5 (λ (j : ℕ). all 32 (f i j)) 
 abbrev raises : ℕ → ℕ → Bool → Bool → Bool
 raises i j t b = pick (eqb i j) (b || t) b
 
-raise-table : (t : Bool) → everywhere (λ (i j x : ℕ). same (bit (2 ^ i) (raised (2 ^ j) t x)) (raises i j t (bit (2 ^ i) x)) && ltb (raised (2 ^ j) t x) 32) ≡ true
+raise_table : (t : Bool) → everywhere (λ (i j x : ℕ). same (bit (2 ^ i) (raised (2 ^ j) t x)) (raises i j t (bit (2 ^ i) x)) && ltb (raised (2 ^ j) t x) 32) ≡ true
 unfolding all same raised
-raise-table true = refl
-raise-table false = refl
+raise_table true = refl
+raise_table false = refl
 
 module _ (t : Bool) (i j x : ℕ) (a : i < 5) (b : j < 5) (h : x < 32) where
-  raise-both : (same (bit (2 ^ i) (raised (2 ^ j) t x)) (raises i j t (bit (2 ^ i) x)) ≡ true) × (ltb (raised (2 ^ j) t x) 32 ≡ true)
-  raise-both =
+  raise_both : (same (bit (2 ^ i) (raised (2 ^ j) t x)) (raises i j t (bit (2 ^ i) x)) ≡ true) × (ltb (raised (2 ^ j) t x) 32 ≡ true)
+  raise_both =
       and_both _ _
-      (at (λ (i j x : ℕ). same (bit (2 ^ i) (raised (2 ^ j) t x)) (raises i j t (bit (2 ^ i) x)) && ltb (raised (2 ^ j) t x) 32) (raise-table t) i j x a b h)
+      (at (λ (i j x : ℕ). same (bit (2 ^ i) (raised (2 ^ j) t x)) (raises i j t (bit (2 ^ i) x)) && ltb (raised (2 ^ j) t x) 32) (raise_table t) i j x a b h)
 
-  one-raised : bit (2 ^ i) (raised (2 ^ j) t x) ≡ raises i j t (bit (2 ^ i) x)
-  one-raised = same-is _ _ raise-both.0
+  one_raised : bit (2 ^ i) (raised (2 ^ j) t x) ≡ raises i j t (bit (2 ^ i) x)
+  one_raised = same_is _ _ raise_both.0
 
 pub raised_below : (t : Bool) (j x : ℕ) → j < 5 → x < 32 → raised (2 ^ j) t x < 32
-raised_below t j x b h = ltb-true _ _ (raise-both t 0 j x (lit< tt) b h).1
+raised_below t j x b h = ltb-true _ _ (raise_both t 0 j x (lit< tt) b h).1
 
 -- a matching edge raises bit 0 and no other
-pub event-raises : (i x : ℕ) → i < 5 → x < 32 → bit (2 ^ i) (raised 1 true x) ≡ (bit (2 ^ i) x || eqb i 0)
-event-raises i x l h = one-raised true i 0 x l (lit< tt) h ∙ by i l (bit (2 ^ i) x)
+pub event_raises : (i x : ℕ) → i < 5 → x < 32 → bit (2 ^ i) (raised 1 true x) ≡ (bit (2 ^ i) x || eqb i 0)
+event_raises i x l h = one_raised true i 0 x l (lit< tt) h ∙ by i l (bit (2 ^ i) x)
   where
     by : (i : ℕ) → i < 5 → (b : Bool) → raises i 0 true b ≡ (b || eqb i 0)
     by zero l b = refl
@@ -84,18 +84,18 @@ module _ (periodic strobe second : Bool) (x : ℕ) (h : x < 32) where
   with_second : raised 8 second x < 32
   with_second = raised_below second 3 x (lit< tt) h
 
-  with-strobe : raised 4 strobe (raised 8 second x) < 32
-  with-strobe = raised_below strobe 2 (raised 8 second x) (lit< tt) with_second
+  with_strobe_lem : raised 4 strobe (raised 8 second x) < 32
+  with_strobe_lem = raised_below strobe 2 (raised 8 second x) (lit< tt) with_second
 
-  pub sources-below : sources_raised periodic strobe second x < 32
+  pub sources_below : sources_raised periodic strobe second x < 32
   unfolding sources_raised
-  sources-below = raised_below periodic 1 (raised 4 strobe (raised 8 second x)) (lit< tt) with-strobe
+  sources_below = raised_below periodic 1 (raised 4 strobe (raised 8 second x)) (lit< tt) with_strobe_lem
 
-  pub sources-raise : (i : ℕ) → i < 5 → bit (2 ^ i) (sources_raised periodic strobe second x) ≡ (bit (2 ^ i) x || source_of i periodic strobe second)
+  pub sources_raise : (i : ℕ) → i < 5 → bit (2 ^ i) (sources_raised periodic strobe second x) ≡ (bit (2 ^ i) x || source_of i periodic strobe second)
   unfolding sources_raised
-  sources-raise i l =
-      one-raised periodic i 1 (raised 4 strobe (raised 8 second x)) l (lit< tt) with-strobe
-      ∙ ap (raises i 1 periodic) (one-raised strobe i 2 (raised 8 second x) l (lit< tt) with_second ∙ ap (raises i 2 strobe) (one-raised second i 3 x l (lit< tt) h))
+  sources_raise i l =
+      one_raised periodic i 1 (raised 4 strobe (raised 8 second x)) l (lit< tt) with_strobe_lem
+      ∙ ap (raises i 1 periodic) (one_raised strobe i 2 (raised 8 second x) l (lit< tt) with_second ∙ ap (raises i 2 strobe) (one_raised second i 3 x l (lit< tt) h))
       ∙ by i l (bit (2 ^ i) x)
     where
       by : (i : ℕ) → i < 5 → (b : Bool) → raises i 1 periodic (raises i 2 strobe (raises i 3 second b)) ≡ (b || source_of i periodic strobe second)
@@ -115,17 +115,17 @@ lowers i j t b = pick (eqb i j) (b && not t) b
 abbrev test : Bool → ℕ → ℕ → ℕ → Bool
 test t i j x = same (bit (2 ^ i) (lowered (2 ^ j) t x)) (lowers i j t (bit (2 ^ i) x))
 
-lower-table : (t : Bool) → everywhere (test t) ≡ true
+lower_table : (t : Bool) → everywhere (test t) ≡ true
 unfolding all same lowered
-lower-table true = refl
-lower-table false = refl
+lower_table true = refl
+lower_table false = refl
 
-one-lowered : (t : Bool) (i j x : ℕ) → i < 5 → j < 5 → x < 32 → bit (2 ^ i) (lowered (2 ^ j) t x) ≡ lowers i j t (bit (2 ^ i) x)
-one-lowered t i j x a b h = same-is _ _ (at (test t) (lower-table t) i j x a b h)
+one_lowered : (t : Bool) (i j x : ℕ) → i < 5 → j < 5 → x < 32 → bit (2 ^ i) (lowered (2 ^ j) t x) ≡ lowers i j t (bit (2 ^ i) x)
+one_lowered t i j x a b h = same_is _ _ (at (test t) (lower_table t) i j x a b h)
 
-lowered-within : (w : ℕ) (t : Bool) (x : ℕ) → lowered w t x ≤ x
+lowered_within : (w : ℕ) (t : Bool) (x : ℕ) → lowered w t x ≤ x
 unfolding lowered
-lowered-within w t x = by (t && bit w x)
+lowered_within w t x = by (t && bit w x)
   where
     by : (s : Bool) → pick s (x - w) x ≤ x
     by true = omega arith
@@ -133,32 +133,32 @@ lowered-within w t x = by (t && bit w x)
 
 -- ---- all five
 
-five-lowered : (i : ℕ) → i < 5 → (s0 s1 s2 s3 s4 : Bool) (x : ℕ) → x < 32
+five_lowered : (i : ℕ) → i < 5 → (s0 s1 s2 s3 s4 : Bool) (x : ℕ) → x < 32
     → bit (2 ^ i) (lowered 1 s0 (lowered 2 s1 (lowered 4 s2 (lowered 8 s3 (lowered 16 s4 x)))))
     ≡ lowers i 0 s0 (lowers i 1 s1 (lowers i 2 s2 (lowers i 3 s3 (lowers i 4 s4 (bit (2 ^ i) x)))))
-five-lowered i l s0 s1 s2 s3 s4 x h =
+five_lowered i l s0 s1 s2 s3 s4 x h =
     let x4 = lowered 16 s4 x in
     let x3 = lowered 8 s3 x4 in
     let x2 = lowered 4 s2 x3 in
     let x1 = lowered 2 s1 x2 in
-    let h4 : x4 < 32 = omega (arith, lowered-within 16 s4 x) in
-    let h3 : x3 < 32 = omega (arith, h4, lowered-within 8 s3 x4) in
-    let h2 : x2 < 32 = omega (arith, h3, lowered-within 4 s2 x3) in
-    let h1 : x1 < 32 = omega (arith, h2, lowered-within 2 s1 x2) in
-    one-lowered s0 i 0 x1 l (lit< tt) h1
+    let h4 : x4 < 32 = omega (arith, lowered_within 16 s4 x) in
+    let h3 : x3 < 32 = omega (arith, h4, lowered_within 8 s3 x4) in
+    let h2 : x2 < 32 = omega (arith, h3, lowered_within 4 s2 x3) in
+    let h1 : x1 < 32 = omega (arith, h2, lowered_within 2 s1 x2) in
+    one_lowered s0 i 0 x1 l (lit< tt) h1
     ∙ ap (lowers i 0 s0)
-    (one-lowered s1 i 1 x2 l (lit< tt) h2
+    (one_lowered s1 i 1 x2 l (lit< tt) h2
     ∙ ap (lowers i 1 s1)
-    (one-lowered s2 i 2 x3 l (lit< tt) h3 ∙ ap (lowers i 2 s2) (one-lowered s3 i 3 x4 l (lit< tt) h4 ∙ ap (lowers i 3 s3) (one-lowered s4 i 4 x l (lit< tt) h))))
+    (one_lowered s2 i 2 x3 l (lit< tt) h3 ∙ ap (lowers i 2 s2) (one_lowered s3 i 3 x4 l (lit< tt) h4 ∙ ap (lowers i 3 s3) (one_lowered s4 i 4 x l (lit< tt) h))))
 
-pub cleared-within : (v x : ℕ) → cleared v x ≤ x
+pub cleared_within : (v x : ℕ) → cleared v x ≤ x
 unfolding cleared
-cleared-within v x =
+cleared_within v x =
     let a = lowered 16 (bit 16 v) x in
     let b = lowered 8 (bit 8 v) a in
     let d = lowered 4 (bit 4 v) b in
     let e = lowered 2 (bit 2 v) d in
-    omega (arith, lowered-within 16 (bit 16 v) x, lowered-within 8 (bit 8 v) a, lowered-within 4 (bit 4 v) b, lowered-within 2 (bit 2 v) d, lowered-within 1 (bit 1 v) e)
+    omega (arith, lowered_within 16 (bit 16 v) x, lowered_within 8 (bit 8 v) a, lowered_within 4 (bit 4 v) b, lowered_within 2 (bit 2 v) d, lowered_within 1 (bit 1 v) e)
 
 chosen : (i : ℕ) → i < 5 → (v : ℕ) (b : Bool)
     → lowers i 0 (bit 1 v) (lowers i 1 (bit 2 v) (lowers i 2 (bit 4 v) (lowers i 3 (bit 8 v) (lowers i 4 (bit 16 v) b)))) ≡ (b && not (bit (2 ^ i) v))
@@ -172,38 +172,38 @@ chosen (suc (suc (suc (suc (suc i))))) l v b = absurd (omega arith)
 -- a pending bit is set afterwards exactly if it was and the value does not have it
 pub clears : (i v p : ℕ) → i < 5 → p < 32 → bit (2 ^ i) (cleared v p) ≡ (bit (2 ^ i) p && not (bit (2 ^ i) v))
 unfolding cleared
-clears i v p l h = five-lowered i l (bit 1 v) (bit 2 v) (bit 4 v) (bit 8 v) (bit 16 v) p h ∙ chosen i l v (bit (2 ^ i) p)
+clears i v p l h = five_lowered i l (bit 1 v) (bit 2 v) (bit 4 v) (bit 8 v) (bit 16 v) p h ∙ chosen i l v (bit (2 ^ i) p)
 
 -- ---- meeting
 
-or-either : (s t : Bool) → (s || t) ≡ true → (s ≡ true) ⊎ (t ≡ true)
-or-either true t e = inl refl
-or-either false t e = inr e
+or_either : (s t : Bool) → (s || t) ≡ true → (s ≡ true) ⊎ (t ≡ true)
+or_either true t e = inl refl
+or_either false t e = inr e
 
 module _ (a b : ℕ) where
   shared : (i : ℕ) → i < 5 → (bit (2 ^ i) a && bit (2 ^ i) b) ≡ true → Shared a b
   shared i l e = record { place = i; within = l; first = and_left (bit (2 ^ i) a) (bit (2 ^ i) b) e; second = and_right (bit (2 ^ i) a) (bit (2 ^ i) b) e }
 
-  meets-only-if : meet a b ≡ true → Shared a b
+  meets_only_if : meet a b ≡ true → Shared a b
   unfolding meet
-  meets-only-if e =
+  meets_only_if e =
       ⊎_elim (shared 0 (lit< tt))
       (λ f. ⊎_elim (shared 1 (lit< tt))
       (λ g. ⊎_elim (shared 2 (lit< tt))
       (λ h. ⊎_elim (shared 3 (lit< tt)) (shared 4 (lit< tt))
-      (or-either (bit 8 a && bit 8 b) (bit 16 a && bit 16 b) h)) (or-either (bit 4 a && bit 4 b) _ g)) (or-either (bit 2 a && bit 2 b) _ f)) (or-either (bit 1 a && bit 1 b) _ e)
+      (or_either (bit 8 a && bit 8 b) (bit 16 a && bit 16 b) h)) (or_either (bit 4 a && bit 4 b) _ g)) (or_either (bit 2 a && bit 2 b) _ f)) (or_either (bit 1 a && bit 1 b) _ e)
 
-  meets-if : (i : ℕ) → i < 5 → bit (2 ^ i) a ≡ true → bit (2 ^ i) b ≡ true → meet a b ≡ true
+  meets_if : (i : ℕ) → i < 5 → bit (2 ^ i) a ≡ true → bit (2 ^ i) b ≡ true → meet a b ≡ true
   unfolding meet
-  meets-if zero l e f = simp (e, f)
-  meets-if (suc zero) l e f = simp (e, f, or-true)
-  meets-if (suc (suc zero)) l e f = simp (e, f, or-true)
-  meets-if (suc (suc (suc zero))) l e f = simp (e, f, or-true)
-  meets-if (suc (suc (suc (suc zero)))) l e f = simp (e, f, or-true)
-  meets-if (suc (suc (suc (suc (suc i))))) l e f = absurd (omega arith)
+  meets_if zero l e f = simp (e, f)
+  meets_if (suc zero) l e f = simp (e, f, or-true)
+  meets_if (suc (suc zero)) l e f = simp (e, f, or-true)
+  meets_if (suc (suc (suc zero))) l e f = simp (e, f, or-true)
+  meets_if (suc (suc (suc (suc zero)))) l e f = simp (e, f, or-true)
+  meets_if (suc (suc (suc (suc (suc i))))) l e f = absurd (omega arith)
 
   pub meets : meet a b ≡ true ↔ Shared a b
-  meets = (meets-only-if, λ s. meets-if s.place s.within s.first s.second)
+  meets = (meets_only_if, λ s. meets_if s.place s.within s.first s.second)
 
 -- the line of the registers: up exactly if LEVEL is not 0 and some bit is set in both
 up_by : (i : Interrupts) (t : Bool) → eqb i.level 0 ≡ t → (line_up i ≡ true ↔ (t ≡ false) × (meet i.pending i.mask ≡ true))
@@ -211,8 +211,8 @@ unfolding line_up
 up_by i true e = (λ u. absurd (let q : ◌≡◌ {A = Bool} false true = sym (simp e) ∙ u in let z : ◌≡◌ {A = ℕ} 0 1 = cc in omega arith), λ u. absurd (let z : ◌≡◌ {A = ℕ} 0 1 = cc u.0 in omega arith))
 up_by i false e = (λ u. (refl, simp e at u), λ u. simp (e, u.1))
 
-pub line-up : (i : Interrupts) → line_up i ≡ true ↔ ((i.level ≡ 0 → ⊥) × Shared i.pending i.mask)
-line-up i =
+pub line_up_lem : (i : Interrupts) → line_up i ≡ true ↔ ((i.level ≡ 0 → ⊥) × Shared i.pending i.mask)
+line_up_lem i =
     let w = up_by i (eqb i.level 0) refl in (
       λ u. (eqb-false i.level 0 (w.0 u).0, (meets i.pending i.mask).0 (w.0 u).1),
       λ u. w.1 (ne_eqb i.level 0 u.0, (meets i.pending i.mask).1 u.1),

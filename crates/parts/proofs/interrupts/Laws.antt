@@ -10,36 +10,36 @@ use Rattle.parts.specs.Interrupts.{with_mask, with_pending, with_level, with_vec
 use Rattle.parts.specs.Pending.{raised, cleared}
 
 -- mask and pending bits in range, so LEVEL decides
-pub level-decides : (i : Interrupts) → i.mask < 32 → i.pending < 32 → ltb i.level 8 ≡ interrupts_lawful i
+pub level_decides : (i : Interrupts) → i.mask < 32 → i.pending < 32 → ltb i.level 8 ≡ interrupts_lawful i
 unfolding interrupts_lawful
-level-decides i m p = simp (lt-ltb _ _ m, lt-ltb _ _ p)
+level_decides i m p = simp (lt-ltb _ _ m, lt-ltb _ _ p)
 
 -- none of the four
-pub writes-none : (i : Interrupts) (reg v : ℕ) → (reg ≡ 14 → ⊥) → (reg ≡ 15 → ⊥) → (reg ≡ 16 → ⊥) → (reg ≡ 17 → ⊥) → i ≡ interrupts_written i reg v
+pub writes_none : (i : Interrupts) (reg v : ℕ) → (reg ≡ 14 → ⊥) → (reg ≡ 15 → ⊥) → (reg ≡ 16 → ⊥) → (reg ≡ 17 → ⊥) → i ≡ interrupts_written i reg v
 unfolding interrupts_written
-writes-none i reg v f g h k = simp (ne_eqb reg 14 f, ne_eqb reg 15 g, ne_eqb reg 16 h, ne_eqb reg 17 k)
+writes_none i reg v f g h k = simp (ne_eqb reg 14 f, ne_eqb reg 15 g, ne_eqb reg 16 h, ne_eqb reg 17 k)
 
 -- each of the four
-pub writes-mask : (i : Interrupts) (v : ℕ) → interrupts_written i 14 v ≡ with_mask i (v % 32)
+pub writes_mask : (i : Interrupts) (v : ℕ) → interrupts_written i 14 v ≡ with_mask i (v % 32)
 unfolding interrupts_written
-writes-mask i v = refl
+writes_mask i v = refl
 
-pub writes-level : (i : Interrupts) (v : ℕ) → interrupts_written i 16 v ≡ with_level i (v % 8)
+pub writes_level : (i : Interrupts) (v : ℕ) → interrupts_written i 16 v ≡ with_level i (v % 8)
 unfolding interrupts_written
-writes-level i v = refl
+writes_level i v = refl
 
-pub writes-vector : (i : Interrupts) (v : ℕ) → interrupts_written i 17 v ≡ with_vector i (v % 256)
+pub writes_vector : (i : Interrupts) (v : ℕ) → interrupts_written i 17 v ≡ with_vector i (v % 256)
 unfolding interrupts_written
-writes-vector i v = refl
+writes_vector i v = refl
 
-pub writes-intstat : (i : Interrupts) (v : ℕ) → interrupts_written i 15 v ≡ with_pending i (cleared v i.pending)
+pub writes_intstat : (i : Interrupts) (v : ℕ) → interrupts_written i 15 v ≡ with_pending i (cleared v i.pending)
 unfolding interrupts_written
-writes-intstat i v = refl
+writes_intstat i v = refl
 
 -- no source raises nothing
-pub none-raised : (i : Interrupts) → with_pending i (sources_raised false false false i.pending) ≡ i
+pub none_raised : (i : Interrupts) → with_pending i (sources_raised false false false i.pending) ≡ i
 unfolding sources_raised raised
-none-raised i = refl
+none_raised i = refl
 
 -- the ranges, and a part within them
 pub record Ranges (i : Interrupts) : Type 0 where

@@ -17,24 +17,24 @@ use Rattle.parts.specs.Saved.{saved_form, meaningful, saved_lines, saved_refusal
 -- SAVING
 
 module _ (s : Settings) (row : List ℕ) where
-  pub put-18 : settings_lawful s ≡ false → (18 ≡ put_refusal s (length row)) × (row ≡ row_put s row)
+  pub put_18 : settings_lawful s ≡ false → (18 ≡ put_refusal s (length row)) × (row ≡ row_put s row)
   unfolding put_refusal row_put
-  put-18 e = (simp e, simp e)
+  put_18 e = (simp e, simp e)
 
-  pub put-14 : settings_lawful s ≡ true → length row < 5 → (14 ≡ put_refusal s (length row)) × (row ≡ row_put s row)
+  pub put_14 : settings_lawful s ≡ true → length row < 5 → (14 ≡ put_refusal s (length row)) × (row ≡ row_put s row)
   unfolding put_refusal row_put
-  put-14 e h = (simp (e, lt-ltb (length row) 5 h), simp (e, lt-ltb (length row) 5 h))
+  put_14 e h = (simp (e, lt-ltb (length row) 5 h), simp (e, lt-ltb (length row) 5 h))
 
-  pub put-done : settings_lawful s ≡ true → 5 ≤ length row → (after : List ℕ) → after ≡ saved_form s ++ drop 5 row → (0 ≡ put_refusal s (length row)) × (after ≡ row_put s row)
+  pub put_done : settings_lawful s ≡ true → 5 ≤ length row → (after : List ℕ) → after ≡ saved_form s ++ drop 5 row → (0 ≡ put_refusal s (length row)) × (after ≡ row_put s row)
   unfolding put_refusal row_put
-  put-done e h after a = (simp (e, le-ltb (length row) 5 h), a ∙ simp (e, le-ltb (length row) 5 h))
+  put_done e h after a = (simp (e, le-ltb (length row) 5 h), a ∙ simp (e, le-ltb (length row) 5 h))
 
   -- of lawful settings, the row alone decides
-  pub put-known : settings_lawful s ≡ true
+  pub put_known : settings_lawful s ≡ true
       → (put_refusal s (length row) ≡ given (14 if ltb (length row) 5 ∷ []))
       × (row_put s row ≡ pick (eqb (given (14 if ltb (length row) 5 ∷ [])) 0) (saved_form s ++ drop 5 row) row)
   unfolding put_refusal row_put
-  put-known e = (simp e, simp e)
+  put_known e = (simp e, simp e)
 
 -- LOADING
 
@@ -46,25 +46,25 @@ loaded bytes true h = simp h
 loaded bytes false h = simp h
 
 -- the refusal is that of the lines
-pub refusal-given : (bytes : List ℕ) → saved_refusal bytes ≡ given (saved_lines bytes)
+pub refusal_given : (bytes : List ℕ) → saved_refusal bytes ≡ given (saved_lines bytes)
 unfolding saved_refusal
-refusal-given bytes = refl
+refusal_given bytes = refl
 
 -- and the number of what bytes are loaded as is the number that their lines give
-pub number-loaded : (bytes : List ℕ) → number_loaded (read_saved bytes) ≡ saved_refusal bytes
+pub number_loaded_lem : (bytes : List ℕ) → number_loaded (read_saved bytes) ≡ saved_refusal bytes
 unfolding read_saved saved_refusal
-number-loaded bytes = go (eqb (length bytes) 5 && meaningful (unpacked 2 8 bytes))
+number_loaded_lem bytes = go (eqb (length bytes) 5 && meaningful (unpacked 2 8 bytes))
   where
     go : (t : Bool) → number_loaded (pick (eqb (given (19 if not t ∷ [])) 0) (SettingsRead.Is (settings_in (unpacked 2 8 bytes))) SettingsRead.Refused) ≡ given (19 if not t ∷ [])
     go true = refl
     go false = refl
 
 -- and its settings are what the bytes say, if no line holds
-pub settings-loaded : (these : Settings) (bytes : List ℕ) → settings_loaded these (read_saved bytes) ≡ pick (eqb (saved_refusal bytes) 0) (settings_in (unpacked 2 8 bytes)) these
+pub settings_loaded_lem : (these : Settings) (bytes : List ℕ) → settings_loaded these (read_saved bytes) ≡ pick (eqb (saved_refusal bytes) 0) (settings_in (unpacked 2 8 bytes)) these
 unfolding read_saved
-settings-loaded these bytes = picked (settings_loaded these) (eqb (saved_refusal bytes) 0) (SettingsRead.Is (settings_in (unpacked 2 8 bytes))) SettingsRead.Refused
+settings_loaded_lem these bytes = picked (settings_loaded these) (eqb (saved_refusal bytes) 0) (SettingsRead.Is (settings_in (unpacked 2 8 bytes))) SettingsRead.Refused
 
 -- a refused saving leaves the row
-pub put-stays : (s : Settings) (row : List ℕ) → (put_refusal s (length row) ≡ 0 → ⊥) → row_put s row ≡ row
+pub put_stays : (s : Settings) (row : List ℕ) → (put_refusal s (length row) ≡ 0 → ⊥) → row_put s row ≡ row
 unfolding row_put
-put-stays s row h = simp (ne_eqb (put_refusal s (length row)) 0 h)
+put_stays s row h = simp (ne_eqb (put_refusal s (length row)) 0 h)

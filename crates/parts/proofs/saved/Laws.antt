@@ -15,12 +15,12 @@ use lib.Seq.{take_at, drop_at, sets, sets-eq}
 use borrow.Author.Tests.{ltb-true, leb-true, eq-eqb, eqb-true}
 use Rattle.wire.specs.Digits.{pick, digits, num, below, packed, unpacked}
 use Rattle.wire.specs.Packets.{mode_means, pair_means, offset_fits}
-use Rattle.wire.proofs.digits.Laws.{and_left, and_right, zeros, digits-length, digits_above, digits-mod-pow, digits-split, num-digits}
+use Rattle.wire.proofs.digits.Laws.{and_left, and_right, zeros, digits_length, digits_above, digits_mod_pow, digits_split, num_digits}
 use Rattle.wire.specs.declared.packets.Format.{Format}
 use Rattle.wire.specs.declared.packets.Modulation.{Modulation}
 use Rattle.wire.specs.declared.packets.ClockSource.{ClockSource}
 use Rattle.wire.specs.declared.packets.Generator.{Generator}
-use Rattle.wire.proofs.words.Laws.{five-of}
+use Rattle.wire.proofs.words.Laws.{five_of}
 use Rattle.parts.specs.declared.settings.Settings.{Settings}
 use Rattle.parts.specs.declared.saved.SettingsRead.{SettingsRead}
 use Rattle.parts.specs.Settings.{settings_lawful}
@@ -32,19 +32,19 @@ module _ (b : ℕ) (p : 0 < b) where
   -- the digits of two numbers, one behind the other, are those of one number
   pub join : (j k m r : ℕ) → r < b ^ k → digits b (j + k) (m * b ^ k + r) ≡ digits b j m ++ digits b k r
   join j k m r h =
-      digits-split b p j k (m * b ^ k + r)
+      digits_split b p j k (m * b ^ k + r)
       ∙ ap₂ (λ (x : ℕ) (l : List ℕ). digits b j x ++ l) (digits_div m h) (digits_above b p k m r)
 
   -- digits from the place i on, with j behind it
   pub behind : (i j n : ℕ) → drop i (digits b (i + j) n) ≡ digits b j n
-  behind i j n = ap (drop i) (digits-split b p i j n) ∙ drop_at (digits b i (n / b ^ j)) (digits b j n) i (digits-length b p i (n / b ^ j))
+  behind i j n = ap (drop i) (digits_split b p i j n) ∙ drop_at (digits b i (n / b ^ j)) (digits b j n) i (digits_length b p i (n / b ^ j))
 
   -- the first k digits, with j behind them
   pub front : (k j n : ℕ) → num b (take k (digits b (k + j) n)) ≡ n / b ^ j % b ^ k
   front k j n =
-      ap (λ (l : List ℕ). num b (take k l)) (digits-split b p k j n)
-      ∙ ap (num b) (take_at (digits b k (n / b ^ j)) (digits b j n) k (digits-length b p k (n / b ^ j)))
-      ∙ num-digits b p k (n / b ^ j)
+      ap (λ (l : List ℕ). num b (take k l)) (digits_split b p k j n)
+      ∙ ap (num b) (take_at (digits b k (n / b ^ j)) (digits b j n) k (digits_length b p k (n / b ^ j)))
+      ∙ num_digits b p k (n / b ^ j)
 
   -- k digits at the place i, with j behind them
   pub at : (i k j n : ℕ) → num b (take k (drop i (digits b (i + (k + j)) n))) ≡ n / b ^ j % b ^ k
@@ -75,37 +75,37 @@ number_in a b c d e hb hc hd he =
     rw (join 2 two 32 8 (((a * 256 + b) * 256 + c) * 256 + d) e he, join 2 two 24 8 ((a * 256 + b) * 256 + c) d hd, join 2 two 16 8 (a * 256 + b) c hc, join 2 two 8 8 a b hb)
     (simp (append_assoc, append-nil))
 
-spare-bits : (x : ℕ) → digits 2 40 (x * 64) ≡ digits 2 34 x ++ replicate 6 0
+spare_bits : (x : ℕ) → digits 2 40 (x * 64) ≡ digits 2 34 x ++ replicate 6 0
 unfolding digits
-spare-bits x = ap (digits 2 40) (let e : x * 64 ≡ x * 64 + 0 = omega arith in e) ∙ join 2 two 34 6 x 0 (lit< tt)
+spare_bits x = ap (digits 2 40) (let e : x * 64 ≡ x * 64 + 0 = omega arith in e) ∙ join 2 two 34 6 x 0 (lit< tt)
 
 -- the fields, one behind the other, and six zeros
 pub fields : (m f d c g t z : ℕ) → f < 8 → d < 2 → c < 2 → g < 2 → t < 2 → z < 16777216 →
     digits 2 40 (((((((m * 8 + f) * 2 + d) * 2 + c) * 2 + g) * 2 + t) * 16777216 + z) * 64)
     ≡ (digits 2 3 m ++ (digits 2 3 f ++ (digits 2 1 d ++ (digits 2 1 c ++ (digits 2 1 g ++ (digits 2 1 t ++ digits 2 24 z)))))) ++ replicate 6 0
 fields m f d c g t z hf hd hc hg ht hz =
-    rw (spare-bits ((((((m * 8 + f) * 2 + d) * 2 + c) * 2 + g) * 2 + t) * 16777216 + z), join 2 two 10 24 (((((m * 8 + f) * 2 + d) * 2 + c) * 2 + g) * 2 + t) z hz, join 2 two 9 1 ((((m * 8 + f) * 2 + d) * 2 + c) * 2 + g) t ht, join 2 two 8 1 (((m * 8 + f) * 2 + d) * 2 + c) g hg, join 2 two 7 1 ((m * 8 + f) * 2 + d) c hc, join 2 two 6 1 (m * 8 + f) d hd, join 2 two 3 3 m f hf)
+    rw (spare_bits ((((((m * 8 + f) * 2 + d) * 2 + c) * 2 + g) * 2 + t) * 16777216 + z), join 2 two 10 24 (((((m * 8 + f) * 2 + d) * 2 + c) * 2 + g) * 2 + t) z hz, join 2 two 9 1 ((((m * 8 + f) * 2 + d) * 2 + c) * 2 + g) t ht, join 2 two 8 1 (((m * 8 + f) * 2 + d) * 2 + c) g hg, join 2 two 7 1 ((m * 8 + f) * 2 + d) c hc, join 2 two 6 1 (m * 8 + f) d hd, join 2 two 3 3 m f hf)
     (simp append_assoc)
 
 -- what the numbers of the fields are below
-pub format-below : (f : Format) → format_number f < 8
-format-below Format.A = lit< tt
-format-below Format.B = lit< tt
-format-below Format.C = lit< tt
-format-below Format.N = lit< tt
-format-below Format.X = lit< tt
+pub format_below : (f : Format) → format_number f < 8
+format_below Format.A = lit< tt
+format_below Format.B = lit< tt
+format_below Format.C = lit< tt
+format_below Format.N = lit< tt
+format_below Format.X = lit< tt
 
-pub modulation-below : (m : Modulation) → modulation_bit m < 2
-modulation-below Modulation.M = lit< tt
-modulation-below Modulation.D = lit< tt
+pub modulation_below : (m : Modulation) → modulation_bit m < 2
+modulation_below Modulation.M = lit< tt
+modulation_below Modulation.D = lit< tt
 
-pub clock-below : (c : ClockSource) → clock_bit c < 2
-clock-below ClockSource.External = lit< tt
-clock-below ClockSource.Internal = lit< tt
+pub clock_below : (c : ClockSource) → clock_bit c < 2
+clock_below ClockSource.External = lit< tt
+clock_below ClockSource.Internal = lit< tt
 
-pub generator-below : (g : Generator) → generator_bit g < 2
-generator-below Generator.B = lit< tt
-generator-below Generator.H = lit< tt
+pub generator_below : (g : Generator) → generator_bit g < 2
+generator_below Generator.B = lit< tt
+generator_below Generator.H = lit< tt
 
 pub sign_below : (z : ℤ) → sign_bit z < 2
 sign_below (pos n) = lit< tt
@@ -128,17 +128,17 @@ module _ (s : Settings) (w : settings_lawful s ≡ true) where
 abbrev pub number_of : Settings → ℕ
 number_of s = ((((((s.mode * 8 + format_number s.format) * 2 + modulation_bit s.modulation) * 2 + clock_bit s.clock) * 2 + generator_bit s.generator) * 2 + sign_bit s.offset) * 16777216 + nat_abs s.offset) * 64
 
-pub number-bits : (s : Settings) → settings_lawful s ≡ true → digits 2 40 (number_of s) ≡ settings_bits s ++ replicate 6 0
+pub number_bits : (s : Settings) → settings_lawful s ≡ true → digits 2 40 (number_of s) ≡ settings_bits s ++ replicate 6 0
 unfolding settings_bits
-number-bits s w =
+number_bits s w =
     fields s.mode (format_number s.format) (modulation_bit s.modulation) (clock_bit s.clock) (generator_bit s.generator) (sign_bit s.offset) (nat_abs s.offset)
-    (format-below s.format) (modulation-below s.modulation) (clock-below s.clock) (generator-below s.generator) (sign_below s.offset) (omega (arith, size_small s w))
+    (format_below s.format) (modulation_below s.modulation) (clock_below s.clock) (generator_below s.generator) (sign_below s.offset) (omega (arith, size_small s w))
 
 -- the bytes of their number, stored at a row's front
-pub row-after : (s : Settings) (n : ℕ) (row : List ℕ) → digits 2 40 n ≡ settings_bits s ++ replicate 6 0 → 5 ≤ length row →
+pub row_after : (s : Settings) (n : ℕ) (row : List ℕ) → digits 2 40 n ≡ settings_bits s ++ replicate 6 0 → 5 ≤ length row →
     sets row 0 (n / 4294967296 % 256 ∷ n / 16777216 % 256 ∷ n / 65536 % 256 ∷ n / 256 % 256 ∷ n % 256 ∷ []) ≡ saved_form s ++ drop 5 row
 unfolding saved_form
-row-after s n row e h =
+row_after s n row e h =
     sets-eq (n / 4294967296 % 256 ∷ n / 16777216 % 256 ∷ n / 65536 % 256 ∷ n / 256 % 256 ∷ n % 256 ∷ []) row 0 h
     ∙ ap (λ (l : List ℕ). l ++ drop 5 row) (sym (bytes_of n) ∙ ap (packed 2 8 5) e)
 
@@ -148,7 +148,7 @@ pub place : (i k j n : ℕ) → bits_at i k (digits 2 (i + (k + j)) n) ≡ n / 2
 unfolding bits_at
 place i k j n = at 2 two i k j n
 
-pub settings-at : (n : ℕ) →
+pub settings_at : (n : ℕ) →
     settings_in (digits 2 40 n)
     ≡ record {
       mode = n / 137438953472 % 8;
@@ -159,7 +159,7 @@ pub settings-at : (n : ℕ) →
       offset = offset_of_bits (n / 1073741824 % 2) (n / 64 % 16777216);
     }
 unfolding settings_in
-settings-at n = simp (place 0 3 37 n, place 3 3 34 n, place 6 1 33 n, place 7 1 32 n, place 8 1 31 n, place 9 1 30 n, place 10 24 6 n)
+settings_at n = simp (place 0 3 37 n, place 3 3 34 n, place 6 1 33 n, place 7 1 32 n, place 8 1 31 n, place 9 1 30 n, place 10 24 6 n)
 
 -- the spare bits are zero exactly if what they write is
 spare : (n : ℕ) → below 1 (drop 34 (digits 2 40 n)) ≡ eqb (n % 64) 0
@@ -170,21 +170,21 @@ spare n = ap (below 1) (behind 2 two 34 6 n) ∙ go (eqb (n % 64) 0) refl
     none false e h = refl
     none true e h =
         absurd
-        (let z : n % 64 ≡ 0 = sym (num-digits 2 two 6 n) ∙ ap (num 2) (zeros (digits 2 6 n) h) in
+        (let z : n % 64 ≡ 0 = sym (num_digits 2 two 6 n) ∙ ap (num 2) (zeros (digits 2 6 n) h) in
         let q : ◌≡◌ {A = ℕ} 0 1 = cc (eq-eqb (n % 64) 0 z) in omega arith)
 
     go : (t : Bool) → eqb (n % 64) 0 ≡ t → below 1 (digits 2 6 n) ≡ t
-    go true e = ap (below 1) (sym (digits-mod-pow 2 two 6 n) ∙ ap (digits 2 6) (eqb-true (n % 64) 0 e))
+    go true e = ap (below 1) (sym (digits_mod_pow 2 two 6 n) ∙ ap (digits 2 6) (eqb-true (n % 64) 0 e))
     go false e = none (below 1 (digits 2 6 n)) e refl
 
-pub meaningful-at : (n : ℕ) →
+pub meaningful_at : (n : ℕ) →
     meaningful (digits 2 40 n)
     ≡ (leb (n / 17179869184 % 8) 4
     && (settings_lawful (settings_in (digits 2 40 n))
     && (not (eqb (n / 1073741824 % 2) 1 && eqb (n / 64 % 16777216) 0)
     && eqb (n % 64) 0)))
 unfolding meaningful
-meaningful-at n = simp (place 3 3 34 n, place 9 1 30 n, place 10 24 6 n, spare n)
+meaningful_at n = simp (place 3 3 34 n, place 9 1 30 n, place 10 24 6 n, spare n)
 
 -- what a test of settings tells of what they equal
 pub fit_is : {x s : Settings} {r t : Bool} → s ≡ x → r ≡ settings_lawful s → r ≡ t → settings_lawful x ≡ t
@@ -199,16 +199,16 @@ by_bits : (bytes : List ℕ) → length bytes ≡ 5 → read_bits (unpacked 2 8 
 unfolding read_bits read_saved saved_refusal
 by_bits bytes l = rw (eq-eqb (length bytes) 5 l) (nineteen (meaningful (unpacked 2 8 bytes)) (SettingsRead.Is (settings_in (unpacked 2 8 bytes))) SettingsRead.Refused)
 
-pub five-bytes : (bytes : List ℕ) → length bytes ≡ 5 → (r : SettingsRead) (n : ℕ) → r ≡ read_bits (digits 2 40 n) →
+pub five_bytes : (bytes : List ℕ) → length bytes ≡ 5 → (r : SettingsRead) (n : ℕ) → r ≡ read_bits (digits 2 40 n) →
     digits 2 40 n ≡ unpacked 2 8 (get_or bytes 0 0 ∷ get_or bytes 1 0 ∷ get_or bytes 2 0 ∷ get_or bytes 3 0 ∷ get_or bytes 4 0 ∷ []) → r ≡ read_saved bytes
-five-bytes bytes l r n p q = p ∙ ap read_bits (q ∙ ap (unpacked 2 8) (sym (five-of bytes l))) ∙ by_bits bytes l
+five_bytes bytes l r n p q = p ∙ ap read_bits (q ∙ ap (unpacked 2 8) (sym (five_of bytes l))) ∙ by_bits bytes l
 
 -- SIGNED NUMBERS
 
-pub sign-minus : (z : ℤ) → lt_z z (pos 0) ≡ true → 1 ≡ sign_bit z
-sign-minus (pos n) e = absurd (omega (arith, ltb-true n 0 e))
-sign-minus (negsuc n) e = refl
+pub sign_minus : (z : ℤ) → lt_z z (pos 0) ≡ true → 1 ≡ sign_bit z
+sign_minus (pos n) e = absurd (omega (arith, ltb-true n 0 e))
+sign_minus (negsuc n) e = refl
 
-pub sign-plus : (z : ℤ) → lt_z z (pos 0) ≡ false → 0 ≡ sign_bit z
-sign-plus (pos n) e = refl
-sign-plus (negsuc n) e = absurd (let q : ◌≡◌ {A = ℕ} 0 1 = cc in omega arith)
+pub sign_plus : (z : ℤ) → lt_z z (pos 0) ≡ false → 0 ≡ sign_bit z
+sign_plus (pos n) e = refl
+sign_plus (negsuc n) e = absurd (let q : ◌≡◌ {A = ℕ} 0 1 = cc in omega arith)

@@ -7,18 +7,18 @@ use Rattle.sync.specs.declared.interrupts.Interrupt.TheVariants as Interrupt
 use Rattle.sync.specs.Interrupts.{err_taken, slo_taken, fast_taken, next, next_taken}
 
 module _ (b : Board) where
-  pub err-first : b.err ≡ true → (next b ≡ Interrupt.Vector (b.base + 2)) × (next_taken b ≡ err_taken b)
+  pub err_first : b.err ≡ true → (next b ≡ Interrupt.Vector (b.base + 2)) × (next_taken b ≡ err_taken b)
   unfolding next next_taken
-  err-first e = (simp e, simp e)
+  err_first e = (simp e, simp e)
 
-  pub slo-next : b.err ≡ false → b.slo ≡ true → (next b ≡ Interrupt.Vector (b.base + 1)) × (next_taken b ≡ slo_taken b)
+  pub slo_next : b.err ≡ false → b.slo ≡ true → (next b ≡ Interrupt.Vector (b.base + 1)) × (next_taken b ≡ slo_taken b)
   unfolding next next_taken
-  slo-next e s = (simp (e, s), simp (e, s))
+  slo_next e s = (simp (e, s), simp (e, s))
 
-  pub fast-last : b.err ≡ false → b.slo ≡ false → b.fast ≡ true → (next b ≡ Interrupt.Vector b.base) × (next_taken b ≡ fast_taken b)
+  pub fast_last : b.err ≡ false → b.slo ≡ false → b.fast ≡ true → (next b ≡ Interrupt.Vector b.base) × (next_taken b ≡ fast_taken b)
   unfolding next next_taken
-  fast-last e s f = (simp (e, s, f), simp (e, s, f))
+  fast_last e s f = (simp (e, s, f), simp (e, s, f))
 
-  pub none-waits : b.err ≡ false → b.slo ≡ false → b.fast ≡ false → (next b ≡ Interrupt.NoneWaits) × (next_taken b ≡ b)
+  pub none_waits : b.err ≡ false → b.slo ≡ false → b.fast ≡ false → (next b ≡ Interrupt.NoneWaits) × (next_taken b ≡ b)
   unfolding next next_taken
-  none-waits e s f = (simp (e, s, f), simp (e, s, f))
+  none_waits e s f = (simp (e, s, f), simp (e, s, f))

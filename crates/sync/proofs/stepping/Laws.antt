@@ -7,13 +7,13 @@ use native.Mathlib.Omega.{arith}
 use lib.Dec.{leb, ltb, eqb}
 use borrow.Author.Tests.{le-leb, lt-leb, lt-ltb, le-ltb, eq-eqb, ne_eqb}
 use Rattle.wire.specs.Digits.{pick}
-use Rattle.wire.proofs.digits.Laws.{lt-or-le, or_assoc}
+use Rattle.wire.proofs.digits.Laws.{lt_or_le, or_assoc}
 use Rattle.sync.specs.declared.board.Board.{Board}
 use Rattle.sync.specs.Counting.{frequency, count, count_falls}
 use Rattle.sync.specs.Lawful.{lawful}
 use Rattle.sync.specs.Stepping.{held, errs, counts, stepped, quiet_steps}
-use Rattle.sync.proofs.lawful.Laws.{elapsed-within}
-use Rattle.sync.proofs.counting.Laws.{count-more, count-late, count-rises, frequency-above}
+use Rattle.sync.proofs.lawful.Laws.{elapsed_within}
+use Rattle.sync.proofs.counting.Laws.{count_more, count_late, count_rises, frequency_above}
 
 -- A RUN AT ONCE
 
@@ -50,12 +50,12 @@ cleared true a = refl
 cleared false a = refl
 
 -- a rise over two spans is one over the first or over the second
-rises-twice : (a b c : ℕ) → a ≤ b → b ≤ c → (ltb a b || ltb b c) ≡ ltb a c
-rises-twice a b c h k =
+rises_twice : (a b c : ℕ) → a ≤ b → b ≤ c → (ltb a b || ltb b c) ≡ ltb a c
+rises_twice a b c h k =
     ⊎_elim
     (λ l. rw (lt-ltb a b l) (sym (lt-ltb a c (omega arith))))
     (λ g. rw (le-ltb a b g) (ap (λ (x : ℕ). ltb x c) (omega arith)))
-    (lt-or-le a b)
+    (lt_or_le a b)
 
 -- HELD
 
@@ -63,67 +63,67 @@ pub held_below : (m : ℕ) → m < 1008001 → held m ≡ m
 unfolding held
 held_below m h = simp (lt-ltb m 1008001 h)
 
-pub held-above : (m : ℕ) → 1008001 ≤ m → held m ≡ 1008001
+pub held_above : (m : ℕ) → 1008001 ≤ m → held m ≡ 1008001
 unfolding held
-held-above m h = simp (le-ltb m 1008001 h)
+held_above m h = simp (le-ltb m 1008001 h)
 
-pub held-within : (m : ℕ) → m ≤ 1008001 → held m ≡ m
-held-within m h = ⊎_elim (held_below m) (λ g. held-above m g ∙ omega arith) (lt-or-le m 1008001)
+pub held_within : (m : ℕ) → m ≤ 1008001 → held m ≡ m
+held_within m h = ⊎_elim (held_below m) (λ g. held_above m g ∙ omega arith) (lt_or_le m 1008001)
 
-pub held-most : (m : ℕ) → held m ≤ 1008001
-held-most m = ⊎_elim (λ l. let e = held_below m l in omega arith) (λ g. let e = held-above m g in omega arith) (lt-or-le m 1008001)
+pub held_most : (m : ℕ) → held m ≤ 1008001
+held_most m = ⊎_elim (λ l. let e = held_below m l in omega arith) (λ g. let e = held_above m g in omega arith) (lt_or_le m 1008001)
 
-pub held-least : (m n : ℕ) → m ≤ 1008001 → m ≤ held (m + n)
-held-least m n h = ⊎_elim (λ l. let e = held_below (m + n) l in omega arith) (λ g. let e = held-above (m + n) g in omega arith) (lt-or-le (m + n) 1008001)
+pub held_least : (m n : ℕ) → m ≤ 1008001 → m ≤ held (m + n)
+held_least m n h = ⊎_elim (λ l. let e = held_below (m + n) l in omega arith) (λ g. let e = held_above (m + n) g in omega arith) (lt_or_le (m + n) 1008001)
 
 -- at its end exactly if it is held there
-pub held-late : (m : ℕ) → eqb (held m) 1008001 ≡ leb 1008001 m
-held-late m =
+pub held_late : (m : ℕ) → eqb (held m) 1008001 ≡ leb 1008001 m
+held_late m =
     ⊎_elim
     (λ l. rw (held_below m l, ne_eqb m 1008001 (λ q. omega arith)) (sym (lt-leb 1008001 m l)))
-    (λ g. rw (held-above m g, eq-eqb 1008001 1008001 refl) (sym (le-leb 1008001 m g)))
-    (lt-or-le m 1008001)
+    (λ g. rw (held_above m g, eq-eqb 1008001 1008001 refl) (sym (le-leb 1008001 m g)))
+    (lt_or_le m 1008001)
 
 -- what goes above 1,008,001 as it goes there does not tell them from held ones
-pub as-held : {A : Type 0} (g : ℕ → A) (m : ℕ) → (1008001 ≤ m → g 1008001 ≡ g m) → g (held m) ≡ g m
-as-held g m f = ⊎_elim (λ l. ap g (held_below m l)) (λ h. ap g (held-above m h) ∙ f h) (lt-or-le m 1008001)
+pub as_held : {A : Type 0} (g : ℕ → A) (m : ℕ) → (1008001 ≤ m → g 1008001 ≡ g m) → g (held m) ≡ g m
+as_held g m f = ⊎_elim (λ l. ap g (held_below m l)) (λ h. ap g (held_above m h) ∙ f h) (lt_or_le m 1008001)
 
 -- so many more microseconds
-pub held-plus : (j n : ℕ) → held (held j + n) ≡ held (j + n)
-held-plus j n = as-held (λ (x : ℕ). held (x + n)) j (λ g. held-above (1008001 + n) (omega arith) ∙ sym (held-above (j + n) (omega arith)))
+pub held_plus : (j n : ℕ) → held (held j + n) ≡ held (j + n)
+held_plus j n = as_held (λ (x : ℕ). held (x + n)) j (λ g. held_above (1008001 + n) (omega arith) ∙ sym (held_above (j + n) (omega arith)))
 
 -- a pulse is missed once
-missed-next : (e m : ℕ) → e ≤ m → ((ltb e 1008001 && leb 1008001 m) || eqb (held m + 1) 1008001) ≡ (ltb e 1008001 && leb 1008001 (m + 1))
-missed-next e m h =
+missed_next : (e m : ℕ) → e ≤ m → ((ltb e 1008001 && leb 1008001 m) || eqb (held m + 1) 1008001) ≡ (ltb e 1008001 && leb 1008001 (m + 1))
+missed_next e m h =
     ⊎_elim
     (λ l. rw (lt-ltb e 1008001 (omega arith), lt-leb 1008001 m l, held_below m l) (⊎_elim
     (λ k. rw (ne_eqb (m + 1) 1008001 (λ q. omega arith)) (sym (lt-leb 1008001 (m + 1) k)))
     (λ g. rw (eq-eqb (m + 1) 1008001 (omega arith)) (sym (le-leb 1008001 (m + 1) g)))
-    (lt-or-le (m + 1) 1008001)))
-    (λ g. rw (le-leb 1008001 m g, le-leb 1008001 (m + 1) (omega arith), held-above m g, ne_eqb 1008002 1008001 (λ q. omega arith)) (or-false _))
-    (lt-or-le m 1008001)
+    (lt_or_le (m + 1) 1008001)))
+    (λ g. rw (le-leb 1008001 m g, le-leb 1008001 (m + 1) (omega arith), held_above m g, ne_eqb 1008002 1008001 (λ q. omega arith)) (or-false _))
+    (lt_or_le m 1008001)
 
 not_yet : (e : ℕ) → (ltb e 1008001 && leb 1008001 e) ≡ false
-not_yet e = ⊎_elim (λ l. simp (lt-ltb e 1008001 l, lt-leb 1008001 e l)) (λ g. simp (le-ltb e 1008001 g)) (lt-or-le e 1008001)
+not_yet e = ⊎_elim (λ l. simp (lt-ltb e 1008001 l, lt-leb 1008001 e l)) (λ g. simp (le-ltb e 1008001 g)) (lt_or_le e 1008001)
 
 -- no count falls after a second
-pub falls-late : (f m : ℕ) → 0 < f → 1000000 ≤ m → count_falls f (m + 1) ≡ false
-falls-late f m p h =
-    count-rises f m
-    ∙ ap₂ ltb (count-late f p m h) (count-late f p (m + 1) (omega arith))
+pub falls_late : (f m : ℕ) → 0 < f → 1000000 ≤ m → count_falls f (m + 1) ≡ false
+falls_late f m p h =
+    count_rises f m
+    ∙ ap₂ ltb (count_late f p m h) (count_late f p (m + 1) (omega arith))
     ∙ le-ltb (f - 1) (f - 1) (omega arith)
 
-pub falls-held : (f m : ℕ) → 0 < f → count_falls f (held m + 1) ≡ count_falls f (m + 1)
-falls-held f m p = as-held (λ (x : ℕ). count_falls f (x + 1)) m (λ g. falls-late f 1008001 p (omega arith) ∙ sym (falls-late f m p (omega arith)))
+pub falls_held : (f m : ℕ) → 0 < f → count_falls f (held m + 1) ≡ count_falls f (m + 1)
+falls_held f m p = as_held (λ (x : ℕ). count_falls f (x + 1)) m (λ g. falls_late f 1008001 p (omega arith) ∙ sym (falls_late f m p (omega arith)))
 
 -- the count rises by what falls
 counted_next : (f e n : ℕ) → 0 < f → (ltb (count f e) (count f (e + n)) || count_falls f (held (e + n) + 1)) ≡ ltb (count f e) (count f (e + n + 1))
 counted_next f e n p =
-    ap (λ (t : Bool). ltb (count f e) (count f (e + n)) || t) (falls-held f (e + n) p ∙ count-rises f (e + n))
-    ∙ rises-twice (count f e) (count f (e + n)) (count f (e + n + 1)) (count-more f e n) (count-more f (e + n) 1)
+    ap (λ (t : Bool). ltb (count f e) (count f (e + n)) || t) (falls_held f (e + n) p ∙ count_rises f (e + n))
+    ∙ rises_twice (count f e) (count f (e + n)) (count f (e + n + 1)) (count_more f e n) (count_more f (e + n) 1)
 
-pub count-of-held : (f m : ℕ) → 0 < f → count f (held m) ≡ count f m
-count-of-held f m p = as-held (count f) m (λ g. count-late f p 1008001 (omega arith) ∙ sym (count-late f p m (omega arith)))
+pub count_of_held : (f m : ℕ) → 0 < f → count f (held m) ≡ count f m
+count_of_held f m p = as_held (count f) m (λ g. count_late f p 1008001 (omega arith) ∙ sym (count_late f p m (omega arith)))
 
 -- STEPS
 
@@ -136,19 +136,19 @@ module _ (b : Board) (s : b.seen ≡ true) (w : b.elapsed ≤ 1008001) where
   none =
       let z : b.elapsed + 0 ≡ b.elapsed = omega arith in
       let c = count (frequency b.rc1) b.elapsed in
-      simp (z, held-within b.elapsed w, not_yet b.elapsed, le-ltb c c (omega arith), or-false)
+      simp (z, held_within b.elapsed w, not_yet b.elapsed, le-ltb c c (omega arith), or-false)
 
   next : (n : ℕ) → stepped (passed n b) false ≡ passed (suc n) b
   unfolding stepped errs counts
   next n =
       let e : b.elapsed + suc n ≡ b.elapsed + n + 1 = omega arith in
       rw e
-      (simp (s, or-false, or_assoc, held-plus (b.elapsed + n) 1, missed-next b.elapsed (b.elapsed + n) (omega arith), counted_next (frequency b.rc1) b.elapsed n (frequency-above b.rc1)))
+      (simp (s, or-false, or_assoc, held_plus (b.elapsed + n) 1, missed_next b.elapsed (b.elapsed + n) (omega arith), counted_next (frequency b.rc1) b.elapsed n (frequency_above b.rc1)))
 
-  all-passed : (n : ℕ) → quiet_steps n b ≡ passed n b
+  all_passed : (n : ℕ) → quiet_steps n b ≡ passed n b
   unfolding quiet_steps
-  all-passed zero = sym none
-  all-passed (suc n) = ap (λ (d : Board). stepped d false) (all-passed n) ∙ next n
+  all_passed zero = sym none
+  all_passed (suc n) = ap (λ (d : Board). stepped d false) (all_passed n) ∙ next n
 
 -- before the first pulse nothing passes
 none_passed : (b : Board) → b.seen ≡ false → (n : ℕ) → quiet_steps n b ≡ b
@@ -161,18 +161,18 @@ pub quiet_one : (b : Board) → stepped b false ≡ quiet_steps 1 b
 unfolding quiet_steps
 quiet_one b = refl
 
-pub quiet-later : (n : ℕ) (b : Board) → lawful b ≡ true → quiet_steps n b ≡ later n b
+pub quiet_later : (n : ℕ) (b : Board) → lawful b ≡ true → quiet_steps n b ≡ later n b
 unfolding later
-quiet-later n b h = go b.seen refl
+quiet_later n b h = go b.seen refl
   where
     go : (t : Bool) → b.seen ≡ t → quiet_steps n b ≡ pick b.seen (passed n b) b
-    go true e = all-passed b e (elapsed-within b h) n ∙ simp e
+    go true e = all_passed b e (elapsed_within b h) n ∙ simp e
     go false e = none_passed b e n ∙ simp e
 
-pub later-seen : (n : ℕ) (b : Board) → b.seen ≡ true → later n b ≡ passed n b
+pub later_seen : (n : ℕ) (b : Board) → b.seen ≡ true → later n b ≡ passed n b
 unfolding later
-later-seen n b s = simp s
+later_seen n b s = simp s
 
-pub later-unseen : (n : ℕ) (b : Board) → b.seen ≡ false → later n b ≡ b
+pub later_unseen : (n : ℕ) (b : Board) → b.seen ≡ false → later n b ≡ b
 unfolding later
-later-unseen n b u = simp u
+later_unseen n b u = simp u

@@ -27,17 +27,17 @@ and_right false b e = cc
 pub and_both : (a b : Bool) → (a && b) ≡ true → (a ≡ true) × (b ≡ true)
 and_both a b e = (and_left a b e, and_right a b e)
 
-pub lt-or-le : (a b : ℕ) → (a < b) ⊎ (b ≤ a)
-lt-or-le a zero = inr zero-le
-lt-or-le zero (suc b) = inl (suc-le-suc zero-le)
-lt-or-le (suc a) (suc b) = ⊎_elim (λ p. inl (suc-le-suc p)) (λ q. inr (suc-le-suc q)) (lt-or-le a b)
+pub lt_or_le : (a b : ℕ) → (a < b) ⊎ (b ≤ a)
+lt_or_le a zero = inr zero-le
+lt_or_le zero (suc b) = inl (suc-le-suc zero-le)
+lt_or_le (suc a) (suc b) = ⊎_elim (λ p. inl (suc-le-suc p)) (λ q. inr (suc-le-suc q)) (lt_or_le a b)
 
 -- a number below m times c: how often c goes into it, and what is left
-pub mod-div : (n : ℕ) {m c : ℕ} → 0 < m → 0 < c → n % (m * c) / c ≡ n / c % m
-mod-div n {m} {c} p q = ap (λ (x : ℕ). x / c) (mod-mul n p q) ∙ digits_div (n / c % m) (mod-lt n q)
+pub mod_div : (n : ℕ) {m c : ℕ} → 0 < m → 0 < c → n % (m * c) / c ≡ n / c % m
+mod_div n {m} {c} p q = ap (λ (x : ℕ). x / c) (mod-mul n p q) ∙ digits_div (n / c % m) (mod-lt n q)
 
-pub mod-mod-mul : (n : ℕ) {m c : ℕ} → 0 < m → 0 < c → n % (m * c) % c ≡ n % c
-mod-mod-mul n {m} {c} p q = ap (λ (x : ℕ). x % c) (mod-mul n p q) ∙ digits_mod (n / c % m) (mod-lt n q)
+pub mod_mod_mul : (n : ℕ) {m c : ℕ} → 0 < m → 0 < c → n % (m * c) % c ≡ n % c
+mod_mod_mul n {m} {c} p q = ap (λ (x : ℕ). x % c) (mod-mul n p q) ∙ digits_mod (n / c % m) (mod-lt n q)
 
 -- each digit is one of the base
 pub below_at : (b : ℕ) (ds : List ℕ) → below b ds ≡ true → (i : ℕ) → i < length ds → get_or ds i 0 < b
@@ -50,30 +50,30 @@ pub and_assoc : (a b c : Bool) → ((a && b) && c) ≡ (a && (b && c))
 and_assoc false b c = refl
 and_assoc true b c = refl
 
-pub and-true : (a : Bool) → (a && true) ≡ a
-and-true false = refl
-and-true true = refl
+pub and_true : (a : Bool) → (a && true) ≡ a
+and_true false = refl
+and_true true = refl
 
 pub below_both : (b : ℕ) (ds es : List ℕ) → below b (ds ++ es) ≡ (below b ds && below b es)
 unfolding below
 below_both b [] es = refl
 below_both b (d ∷ ds) es = ap (λ (t : Bool). ltb d b && t) (below_both b ds es) ∙ sym (and_assoc (ltb d b) (below b ds) (below b es))
 
-pub below-append : (b : ℕ) (ds es : List ℕ) → below b ds ≡ true → below b es ≡ true → below b (ds ++ es) ≡ true
-below-append b ds es h i = simp (below_both b ds es, h, i)
+pub below_append : (b : ℕ) (ds es : List ℕ) → below b ds ≡ true → below b es ≡ true → below b (ds ++ es) ≡ true
+below_append b ds es h i = simp (below_both b ds es, h, i)
 
-pub below-take : (b k : ℕ) (ds : List ℕ) → below b ds ≡ true → below b (take k ds) ≡ true
+pub below_take : (b k : ℕ) (ds : List ℕ) → below b ds ≡ true → below b (take k ds) ≡ true
 unfolding below
-below-take b zero ds h = refl
-below-take b (suc k) [] h = refl
-below-take b (suc k) (d ∷ ds) h =
-    simp (and_left (ltb d b) (below b ds) h, below-take b k ds (and_right (ltb d b) (below b ds) h))
+below_take b zero ds h = refl
+below_take b (suc k) [] h = refl
+below_take b (suc k) (d ∷ ds) h =
+    simp (and_left (ltb d b) (below b ds) h, below_take b k ds (and_right (ltb d b) (below b ds) h))
 
-pub below-drop : (b k : ℕ) (ds : List ℕ) → below b ds ≡ true → below b (drop k ds) ≡ true
+pub below_drop : (b k : ℕ) (ds : List ℕ) → below b ds ≡ true → below b (drop k ds) ≡ true
 unfolding below
-below-drop b zero ds h = h
-below-drop b (suc k) [] h = refl
-below-drop b (suc k) (d ∷ ds) h = below-drop b k ds (and_right (ltb d b) (below b ds) h)
+below_drop b zero ds h = h
+below_drop b (suc k) [] h = refl
+below_drop b (suc k) (d ∷ ds) h = below_drop b k ds (and_right (ltb d b) (below b ds) h)
 
 -- digits are below a base if each is
 pub below_each : (b : ℕ) (ds : List ℕ) → ((i : ℕ) → get_or ds i 0 < b) → below b ds ≡ true
@@ -93,10 +93,10 @@ below_more b c q (d ∷ ds) h =
     let l : d < b = ltb-true d b (and_left (ltb d b) (below b ds) h) in
     simp (lt-ltb d c (omega arith), below_more b c q ds (and_right (ltb d b) (below b ds) h))
 
-pub zeros-below : (k : ℕ) → below 1 (replicate k 0) ≡ true
+pub zeros_below : (k : ℕ) → below 1 (replicate k 0) ≡ true
 unfolding below
-zeros-below zero = refl
-zeros-below (suc k) = zeros-below k
+zeros_below zero = refl
+zeros_below (suc k) = zeros_below k
 
 -- digits of base 1 are zeros
 pub zeros : (ds : List ℕ) → below 1 ds ≡ true → ds ≡ replicate (length ds) 0
@@ -111,10 +111,10 @@ module _ (b : ℕ) (p : 0 < b) where
   pow_pos : (k : ℕ) → 0 < b ^ k
   pow_pos k = one-le-pow k b p
 
-  pub digits-length : (k n : ℕ) → length (digits b k n) ≡ k
+  pub digits_length : (k n : ℕ) → length (digits b k n) ≡ k
   unfolding digits
-  digits-length zero n = refl
-  digits-length (suc k) n = ap suc (digits-length k n)
+  digits_length zero n = refl
+  digits_length (suc k) n = ap suc (digits_length k n)
 
   -- k digits do not see what stands above them
   pub digits_above : (k m r : ℕ) → digits b k (m * b ^ k + r) ≡ digits b k r
@@ -126,25 +126,25 @@ module _ (b : ℕ) (p : 0 < b) where
       (rw (mul-add-div_right (pow_pos k) (m * b) r, mul-add-mod_self_right m b (r / b ^ k))
       (ap (λ (l : List ℕ). r / b ^ k % b ∷ l) (digits_above k (m * b) r)))
 
-  pub digits-mod-pow : (k n : ℕ) → digits b k (n % b ^ k) ≡ digits b k n
-  digits-mod-pow k n = sym (digits_above k (n / b ^ k) (n % b ^ k)) ∙ ap (digits b k) (div-add-mod' n (b ^ k))
+  pub digits_mod_pow : (k n : ℕ) → digits b k (n % b ^ k) ≡ digits b k n
+  digits_mod_pow k n = sym (digits_above k (n / b ^ k) (n % b ^ k)) ∙ ap (digits b k) (div-add-mod' n (b ^ k))
 
   -- the number that k digits of n write is n below b ^ k
-  pub num-digits : (k n : ℕ) → num b (digits b k n) ≡ n % b ^ k
+  pub num_digits : (k n : ℕ) → num b (digits b k n) ≡ n % b ^ k
   unfolding digits num
-  num-digits zero n = sym (ap (λ (x : ℕ). n % x) (pow-zero b) ∙ mod-one n)
-  num-digits (suc k) n =
-      rw (digits-length k n, num-digits k n, pow-suc b k, mul_comm (b ^ k) b) (sym (mod-mul n p (pow_pos k)))
+  num_digits zero n = sym (ap (λ (x : ℕ). n % x) (pow-zero b) ∙ mod-one n)
+  num_digits (suc k) n =
+      rw (digits_length k n, num_digits k n, pow-suc b k, mul_comm (b ^ k) b) (sym (mod-mul n p (pow_pos k)))
 
   pub written : (k n : ℕ) → n < b ^ k → num b (digits b k n) ≡ n
-  written k n h = num-digits k n ∙ mod-eq_of_lt h
+  written k n h = num_digits k n ∙ mod-eq_of_lt h
 
-  pub num-below : (ds : List ℕ) → below b ds ≡ true → num b ds < b ^ length ds
+  pub num_below : (ds : List ℕ) → below b ds ≡ true → num b ds < b ^ length ds
   unfolding num below
-  num-below [] h = pow_pos 0
-  num-below (d ∷ ds) h =
+  num_below [] h = pow_pos 0
+  num_below (d ∷ ds) h =
       rw (pow-suc b (length ds), mul_comm (b ^ length ds) b)
-      (digits_lt (ltb-true d b (and_left (ltb d b) (below b ds) h)) (num-below ds (and_right (ltb d b) (below b ds) h)))
+      (digits_lt (ltb-true d b (and_left (ltb d b) (below b ds) h)) (num_below ds (and_right (ltb d b) (below b ds) h)))
 
   -- digits of base b that are written are read
   pub read : (ds : List ℕ) → below b ds ≡ true → digits b (length ds) (num b ds) ≡ ds
@@ -152,50 +152,50 @@ module _ (b : ℕ) (p : 0 < b) where
   read [] h = refl
   read (d ∷ ds) h =
       let t : below b ds ≡ true = and_right (ltb d b) (below b ds) h in
-      rw (digits_div d (num-below ds t), mod-eq_of_lt (ltb-true d b (and_left (ltb d b) (below b ds) h)), digits_above (length ds) d (num b ds))
+      rw (digits_div d (num_below ds t), mod-eq_of_lt (ltb-true d b (and_left (ltb d b) (below b ds) h)), digits_above (length ds) d (num b ds))
       (ap (λ (l : List ℕ). d ∷ l) (read ds t))
 
   -- k digits in the middle of others, written and read
-  pub read-part : (i k : ℕ) (ds : List ℕ) → i + k ≤ length ds → below b ds ≡ true → digits b k (num b (take k (drop i ds))) ≡ take k (drop i ds)
-  read-part i k ds l h =
+  pub read_part : (i k : ℕ) (ds : List ℕ) → i + k ≤ length ds → below b ds ≡ true → digits b k (num b (take k (drop i ds))) ≡ take k (drop i ds)
+  read_part i k ds l h =
       let n : length (take k (drop i ds)) ≡ k = length-take-le k (drop i ds) (simp length-drop (omega arith)) in
-      ap (λ (j : ℕ). digits b j (num b (take k (drop i ds)))) (sym n) ∙ read (take k (drop i ds)) (below-take b k (drop i ds) (below-drop b i ds h))
+      ap (λ (j : ℕ). digits b j (num b (take k (drop i ds)))) (sym n) ∙ read (take k (drop i ds)) (below_take b k (drop i ds) (below_drop b i ds h))
 
   -- and the number they write is small
-  pub part-below : (i k : ℕ) (ds : List ℕ) → i + k ≤ length ds → below b ds ≡ true → num b (take k (drop i ds)) < b ^ k
-  part-below i k ds l h =
+  pub part_below : (i k : ℕ) (ds : List ℕ) → i + k ≤ length ds → below b ds ≡ true → num b (take k (drop i ds)) < b ^ k
+  part_below i k ds l h =
       let n : length (take k (drop i ds)) ≡ k = length-take-le k (drop i ds) (simp length-drop (omega arith)) in
-      rw n at (num-below (take k (drop i ds)) (below-take b k (drop i ds) (below-drop b i ds h)))
+      rw n at (num_below (take k (drop i ds)) (below_take b k (drop i ds) (below_drop b i ds h)))
 
-  pub digits-below : (k n : ℕ) → below b (digits b k n) ≡ true
+  pub digits_below : (k n : ℕ) → below b (digits b k n) ≡ true
   unfolding digits below
-  digits-below zero n = refl
-  digits-below (suc k) n = simp (lt-ltb (n / b ^ k % b) b (mod-lt (n / b ^ k) p), digits-below k n)
+  digits_below zero n = refl
+  digits_below (suc k) n = simp (lt-ltb (n / b ^ k % b) b (mod-lt (n / b ^ k) p), digits_below k n)
 
   -- the digits above the lowest k, and those
-  pub digits-split : (j k n : ℕ) → digits b (j + k) n ≡ digits b j (n / b ^ k) ++ digits b k n
+  pub digits_split : (j k n : ℕ) → digits b (j + k) n ≡ digits b j (n / b ^ k) ++ digits b k n
   unfolding digits
-  digits-split zero k n = ap (λ (m : ℕ). digits b m n) (let e : 0 + k ≡ k = omega arith in e)
-  digits-split (suc j) k n =
+  digits_split zero k n = ap (λ (m : ℕ). digits b m n) (let e : 0 + k ≡ k = omega arith in e)
+  digits_split (suc j) k n =
       rw (suc-add j k, div-div-eq-div-mul n (b ^ k) (b ^ j), mul_comm (b ^ k) (b ^ j), ← pow-add b j k)
-      (ap (λ (l : List ℕ). n / b ^ (j + k) % b ∷ l) (digits-split j k n))
+      (ap (λ (l : List ℕ). n / b ^ (j + k) % b ∷ l) (digits_split j k n))
 
-  pub num-append : (ds es : List ℕ) → num b (ds ++ es) ≡ num b ds * b ^ length es + num b es
+  pub num_append : (ds es : List ℕ) → num b (ds ++ es) ≡ num b ds * b ^ length es + num b es
   unfolding num
-  num-append [] es = omega arith
-  num-append (d ∷ ds) es =
-      rw (length-append ds es, pow-add b (length ds) (length es), num-append ds es, add-mul (d * b ^ length ds) (num b ds) (b ^ length es), mul_assoc d (b ^ length ds) (b ^ length es))
+  num_append [] es = omega arith
+  num_append (d ∷ ds) es =
+      rw (length-append ds es, pow-add b (length ds) (length es), num_append ds es, add-mul (d * b ^ length ds) (num b ds) (b ^ length es), mul_assoc d (b ^ length ds) (b ^ length es))
       (sym (add_assoc (d * (b ^ length ds * b ^ length es)) (num b ds * b ^ length es) (num b es)))
 
-  pub unpacked-length : (k : ℕ) (ws : List ℕ) → length (unpacked b k ws) ≡ length ws * k
+  pub unpacked_length : (k : ℕ) (ws : List ℕ) → length (unpacked b k ws) ≡ length ws * k
   unfolding unpacked
-  unpacked-length k [] = sym (zero-mul k)
-  unpacked-length k (w ∷ ws) = rw (length-append (digits b k w) (unpacked b k ws), digits-length k w, unpacked-length k ws, suc-mul (length ws) k) (omega arith)
+  unpacked_length k [] = sym (zero-mul k)
+  unpacked_length k (w ∷ ws) = rw (length-append (digits b k w) (unpacked b k ws), digits_length k w, unpacked_length k ws, suc-mul (length ws) k) (omega arith)
 
-  pub unpacked-append : (k : ℕ) (ws vs : List ℕ) → unpacked b k (ws ++ vs) ≡ unpacked b k ws ++ unpacked b k vs
+  pub unpacked_append : (k : ℕ) (ws vs : List ℕ) → unpacked b k (ws ++ vs) ≡ unpacked b k ws ++ unpacked b k vs
   unfolding unpacked
-  unpacked-append k [] vs = refl
-  unpacked-append k (w ∷ ws) vs = ap (λ (l : List ℕ). digits b k w ++ l) (unpacked-append k ws vs) ∙ sym (append_assoc (digits b k w) (unpacked b k ws) (unpacked b k vs))
+  unpacked_append k [] vs = refl
+  unpacked_append k (w ∷ ws) vs = ap (λ (l : List ℕ). digits b k w ++ l) (unpacked_append k ws vs) ∙ sym (append_assoc (digits b k w) (unpacked b k ws) (unpacked b k vs))
 
   powers : (j k : ℕ) → (b ^ j) ^ k ≡ b ^ (k * j)
   powers j zero = pow-zero (b ^ j) ∙ sym (ap (λ (m : ℕ). b ^ m) (zero-mul j) ∙ pow-zero b)
@@ -203,40 +203,40 @@ module _ (b : ℕ) (p : 0 < b) where
       pow-suc (b ^ j) k ∙ ap (λ (m : ℕ). m * b ^ j) (powers j k) ∙ sym (pow-add b (k * j) j) ∙ ap (λ (m : ℕ). b ^ m) (sym (suc-mul k j))
 
   -- a digit of base b ^ j is j digits of base b
-  pub digits-of-digits : (j k n : ℕ) → unpacked b j (digits (b ^ j) k n) ≡ digits b (k * j) n
+  pub digits_of_digits : (j k n : ℕ) → unpacked b j (digits (b ^ j) k n) ≡ digits b (k * j) n
   unfolding digits unpacked
-  digits-of-digits j zero n = ap (λ (m : ℕ). digits b m n) (sym (zero-mul j))
-  digits-of-digits j (suc k) n =
-      ap₂ ◌++◌ (ap (λ (m : ℕ). digits b j (n / m % b ^ j)) (powers j k) ∙ digits-mod-pow j (n / b ^ (k * j))) (digits-of-digits j k n)
-      ∙ sym (digits-split j (k * j) n)
+  digits_of_digits j zero n = ap (λ (m : ℕ). digits b m n) (sym (zero-mul j))
+  digits_of_digits j (suc k) n =
+      ap₂ ◌++◌ (ap (λ (m : ℕ). digits b j (n / m % b ^ j)) (powers j k) ∙ digits_mod_pow j (n / b ^ (k * j))) (digits_of_digits j k n)
+      ∙ sym (digits_split j (k * j) n)
       ∙ ap (λ (m : ℕ). digits b m n) (sym (suc-mul k j ∙ add_comm (k * j) j))
 
   -- words are packed digits: k digits to a word, and the same digits again
-  pub unpack-packed : (k m : ℕ) (ds : List ℕ) → length ds ≡ m * k → below b ds ≡ true → unpacked b k (packed b k m ds) ≡ ds
+  pub unpack_packed : (k m : ℕ) (ds : List ℕ) → length ds ≡ m * k → below b ds ≡ true → unpacked b k (packed b k m ds) ≡ ds
   unfolding packed unpacked
-  unpack-packed k zero [] l h = refl
-  unpack-packed k zero (d ∷ ds) l h = absurd (let z : suc (length ds) ≡ 0 = l ∙ zero-mul k in omega arith)
-  unpack-packed k (suc m) ds l h =
+  unpack_packed k zero [] l h = refl
+  unpack_packed k zero (d ∷ ds) l h = absurd (let z : suc (length ds) ≡ 0 = l ∙ zero-mul k in omega arith)
+  unpack_packed k (suc m) ds l h =
       let e : length ds ≡ m * k + k = l ∙ suc-mul m k in
       let t : length (take k ds) ≡ k = length-take-le k ds (omega arith) in
       let u : length (drop k ds) ≡ m * k = simp length-drop (omega arith) in
       ap (λ (j : ℕ). digits b j (num b (take k ds)) ++ unpacked b k (packed b k m (drop k ds))) (sym t)
-      ∙ ap (λ (l : List ℕ). l ++ unpacked b k (packed b k m (drop k ds))) (read (take k ds) (below-take b k ds h))
-      ∙ ap (λ (l : List ℕ). take k ds ++ l) (unpack-packed k m (drop k ds) u (below-drop b k ds h))
+      ∙ ap (λ (l : List ℕ). l ++ unpacked b k (packed b k m (drop k ds))) (read (take k ds) (below_take b k ds h))
+      ∙ ap (λ (l : List ℕ). take k ds ++ l) (unpack_packed k m (drop k ds) u (below_drop b k ds h))
       ∙ take-append-drop k ds
 
   -- and every word is that of its digits
-  pub pack-unpacked : (k : ℕ) (ws : List ℕ) → below (b ^ k) ws ≡ true → packed b k (length ws) (unpacked b k ws) ≡ ws
+  pub pack_unpacked : (k : ℕ) (ws : List ℕ) → below (b ^ k) ws ≡ true → packed b k (length ws) (unpacked b k ws) ≡ ws
   unfolding packed unpacked below
-  pack-unpacked k [] h = refl
-  pack-unpacked k (w ∷ ws) h =
-      rw (take_at (digits b k w) (unpacked b k ws) k (digits-length k w), drop_at (digits b k w) (unpacked b k ws) k (digits-length k w), written k w (ltb-true w (b ^ k) (and_left (ltb w (b ^ k)) (below (b ^ k) ws) h)))
-      (ap (λ (l : List ℕ). w ∷ l) (pack-unpacked k ws (and_right (ltb w (b ^ k)) (below (b ^ k) ws) h)))
+  pack_unpacked k [] h = refl
+  pack_unpacked k (w ∷ ws) h =
+      rw (take_at (digits b k w) (unpacked b k ws) k (digits_length k w), drop_at (digits b k w) (unpacked b k ws) k (digits_length k w), written k w (ltb-true w (b ^ k) (and_left (ltb w (b ^ k)) (below (b ^ k) ws) h)))
+      (ap (λ (l : List ℕ). w ∷ l) (pack_unpacked k ws (and_right (ltb w (b ^ k)) (below (b ^ k) ws) h)))
 
-pub packed-length : (b k m : ℕ) (ds : List ℕ) → length (packed b k m ds) ≡ m
+pub packed_length : (b k m : ℕ) (ds : List ℕ) → length (packed b k m ds) ≡ m
 unfolding packed
-packed-length b k zero ds = refl
-packed-length b k (suc m) ds = ap suc (packed-length b k m (drop k ds))
+packed_length b k zero ds = refl
+packed_length b k (suc m) ds = ap suc (packed_length b k m (drop k ds))
 
 -- TESTS AND CHOICES
 

@@ -7,7 +7,7 @@ use lib.Arith.{digits_div, digits_mod, digits_lt}
 use lib.Dec.{lit<}
 use Rattle.wire.specs.Digits.{shares_in_unit, Splits}
 use Rattle.wire.specs.declared.digits.Counted.{Counted}
-use Rattle.wire.proofs.digits.Laws.{mod-div, mod-mod-mul}
+use Rattle.wire.proofs.digits.Laws.{mod_div, mod_mod_mul}
 
 -- x shares of a unit of u things give n things
 pub record Gives (x n u : ℕ) : Type 0 where
@@ -16,8 +16,8 @@ pub record Gives (x n u : ℕ) : Type 0 where
   pub small : over < shares_in_unit
 
 -- one thing has m shares, and so a whole unit has e too many
-pub rounded-up : (n m u e : ℕ) → m * u ≡ shares_in_unit + e → n * e < shares_in_unit → Gives (n * m) n u
-rounded-up n m u e h l = record { over = n * e; sum = mul_assoc n m u ∙ ap (λ (k : ℕ). n * k) h ∙ mul-add n shares_in_unit e; small = l }
+pub rounded_up : (n m u e : ℕ) → m * u ≡ shares_in_unit + e → n * e < shares_in_unit → Gives (n * m) n u
+rounded_up n m u e h l = record { over = n * e; sum = mul_assoc n m u ∙ ap (λ (k : ℕ). n * k) h ∙ mul-add n shares_in_unit e; small = l }
 
 -- a unit of f smaller ones
 pub finer : {x n : ℕ} (f u : ℕ) → Gives x n (f * u) → Gives (x * f) n u
@@ -40,19 +40,19 @@ module _ {x n u : ℕ} (p : 0 < u) (t : Gives x n u) {r : Counted} (s : Splits x
       ∙ t.sum
       ∙ units n (n / u) (n % u) (div-add-mod' n u)
 
-  shares-low : x % shares_in_unit * u < u * shares_in_unit
-  shares-low = rw (mul_comm u shares_in_unit) (mul-lt-mul_of_pos_right (mod-lt x (lit< tt)) p)
+  shares_low : x % shares_in_unit * u < u * shares_in_unit
+  shares_low = rw (mul_comm u shares_in_unit) (mul-lt-mul_of_pos_right (mod-lt x (lit< tt)) p)
 
-  things-low : n % u * shares_in_unit + t.over < u * shares_in_unit
-  things-low = digits_lt (mod-lt n p) t.small
+  things_low : n % u * shares_in_unit + t.over < u * shares_in_unit
+  things_low = digits_lt (mod-lt n p) t.small
 
   -- the whole units
   pub counted : r.count ≡ n / u
   counted =
       s.count
-      ∙ sym (digits_div (x / shares_in_unit) shares-low)
+      ∙ sym (digits_div (x / shares_in_unit) shares_low)
       ∙ ap (λ (k : ℕ). k / (u * shares_in_unit)) both
-      ∙ digits_div (n / u) things-low
+      ∙ digits_div (n / u) things_low
 
   -- and what the rest gives
   pub rest_gives : Gives r.rest (n % u) u
@@ -61,18 +61,18 @@ module _ {x n u : ℕ} (p : 0 < u) (t : Gives x n u) {r : Counted} (s : Splits x
         over = t.over;
         sum =
             ap (λ (k : ℕ). k * u) s.rest
-            ∙ sym (digits_mod (x / shares_in_unit) shares-low)
+            ∙ sym (digits_mod (x / shares_in_unit) shares_low)
             ∙ ap (λ (k : ℕ). k % (u * shares_in_unit)) both
-            ∙ digits_mod (n / u) things-low;
+            ∙ digits_mod (n / u) things_low;
         small = t.small;
       }
 
 -- One digit after another, the next one of base g. Of n, only what is left over whole f units is still given.
 module _ {x : ℕ} (n f u : ℕ) (p : 0 < f) (q : 0 < u) (t : Gives x (n % (f * u)) u) {r : Counted} (s : Splits x r) where
   pub digit : r.count ≡ n / u % f
-  digit = counted q t s ∙ mod-div n p q
+  digit = counted q t s ∙ mod_div n p q
 
   pub next : (g v : ℕ) → u ≡ g * v → Gives (r.rest * g) (n % u) v
   next g v e =
-      let l : Gives r.rest (n % u) u = subst (λ (m : ℕ). Gives r.rest m u) (mod-mod-mul n p q) (rest_gives q t s) in
+      let l : Gives r.rest (n % u) u = subst (λ (m : ℕ). Gives r.rest m u) (mod_mod_mul n p q) (rest_gives q t s) in
       finer g v (subst (λ (m : ℕ). Gives r.rest (n % u) m) e l)

@@ -13,9 +13,9 @@ use Rattle.wire.specs.declared.packets.Packet.{Packet}
 use Rattle.wire.specs.declared.packets.PacketRead.{PacketRead}
 use Rattle.wire.proofs.digits.Laws.{and_both, picked, zero_or}
 
-pub refusal-given : (row : List ℕ) → packet_refusal row ≡ given (packet_lines row)
+pub refusal_given : (row : List ℕ) → packet_refusal row ≡ given (packet_lines row)
 unfolding packet_refusal
-refusal-given row = refl
+refusal_given row = refl
 
 -- the number of what a row reads as is the number that its table gives
 pub number_read_lem : (row : List ℕ) → number_read (read_packet row) ≡ packet_refusal row
@@ -25,42 +25,42 @@ number_read_lem row =
     ∙ zero_or (packet_refusal row) (eqb (packet_refusal row) 0) refl
 
 -- and its values are those of the packet that it holds, 0 beside a refusal
-pub values-read : (row : List ℕ) → values_read (read_packet row) ≡ pick (eqb (packet_refusal row) 0) (values_of (packet_in row)) no_values
+pub values_read_lem : (row : List ℕ) → values_read (read_packet row) ≡ pick (eqb (packet_refusal row) 0) (values_of (packet_in row)) no_values
 unfolding read_packet
-values-read row = picked values_read (eqb (packet_refusal row) 0) (packet_read (packet_in row)) (PacketRead.Refused (packet_refusal row))
+values_read_lem row = picked values_read (eqb (packet_refusal row) 0) (packet_read (packet_in row)) (PacketRead.Refused (packet_refusal row))
 
 -- and it needs the jam off if that packet does; no refusal does
-pub jam-off-read : (row : List ℕ) → jam_off_read (read_packet row) ≡ (eqb (packet_refusal row) 0 && needs_jam_off (packet_in row))
+pub jam_off_read_lem : (row : List ℕ) → jam_off_read (read_packet row) ≡ (eqb (packet_refusal row) 0 && needs_jam_off (packet_in row))
 unfolding read_packet
-jam-off-read row = picked jam_off_read (eqb (packet_refusal row) 0) (packet_read (packet_in row)) (PacketRead.Refused (packet_refusal row)) ∙ and-picked (eqb (packet_refusal row) 0) (needs_jam_off (packet_in row))
+jam_off_read_lem row = picked jam_off_read (eqb (packet_refusal row) 0) (packet_read (packet_in row)) (PacketRead.Refused (packet_refusal row)) ∙ and_picked (eqb (packet_refusal row) 0) (needs_jam_off (packet_in row))
   where
-    and-picked : (s t : Bool) → pick s t false ≡ (s && t)
-    and-picked true t = refl
-    and-picked false t = refl
+    and_picked : (s t : Bool) → pick s t false ≡ (s && t)
+    and_picked true t = refl
+    and_picked false t = refl
 
 pub reads_in : (row : List ℕ) → packet_refusal row ≡ 0 → read_packet row ≡ packet_read (packet_in row)
 unfolding read_packet
 reads_in row e = simp (eq-eqb (packet_refusal row) 0 e)
 
-pub is-by : (n : ℕ) (p q : Packet) (needs t : Bool) → eqb n 0 ≡ t → pick t (packet_read p) (PacketRead.Refused n) ≡ PacketRead.Is q needs → (n ≡ 0) × (p ≡ q) × (needs_jam_off p ≡ needs)
-is-by n p q needs true e h = (eqb-true n 0 e, cc, cc)
-is-by n p q needs false e h = absurd (let z : ◌≡◌ {A = ℕ} 0 1 = cc in omega arith)
+pub is_by : (n : ℕ) (p q : Packet) (needs t : Bool) → eqb n 0 ≡ t → pick t (packet_read p) (PacketRead.Refused n) ≡ PacketRead.Is q needs → (n ≡ 0) × (p ≡ q) × (needs_jam_off p ≡ needs)
+is_by n p q needs true e h = (eqb-true n 0 e, cc, cc)
+is_by n p q needs false e h = absurd (let z : ◌≡◌ {A = ℕ} 0 1 = cc in omega arith)
 
-refused-by : (n m : ℕ) (p : Packet) (t : Bool) → eqb n 0 ≡ t → pick t (packet_read p) (PacketRead.Refused n) ≡ PacketRead.Refused m → (n ≡ m) × (n ≡ 0 → ⊥)
-refused-by n m p true e h = absurd (let z : ◌≡◌ {A = ℕ} 0 1 = cc in omega arith)
-refused-by n m p false e h = (cc, eqb-false n 0 e)
+refused_by_lem : (n m : ℕ) (p : Packet) (t : Bool) → eqb n 0 ≡ t → pick t (packet_read p) (PacketRead.Refused n) ≡ PacketRead.Refused m → (n ≡ m) × (n ≡ 0 → ⊥)
+refused_by_lem n m p true e h = absurd (let z : ◌≡◌ {A = ℕ} 0 1 = cc in omega arith)
+refused_by_lem n m p false e h = (cc, eqb-false n 0 e)
 
 pub read_is : (row : List ℕ) (q : Packet) (needs : Bool) → read_packet row ≡ PacketRead.Is q needs → (packet_refusal row ≡ 0) × (packet_in row ≡ q) × (needs_jam_off (packet_in row) ≡ needs)
 unfolding read_packet
-read_is row q needs h = is-by (packet_refusal row) (packet_in row) q needs (eqb (packet_refusal row) 0) refl h
+read_is row q needs h = is_by (packet_refusal row) (packet_in row) q needs (eqb (packet_refusal row) 0) refl h
 
 -- so what is said beside a packet that is read is whether it needs the jam off
 pub read_as_lem : (row : List ℕ) (q : Packet) (needs : Bool) → read_packet row ≡ PacketRead.Is q needs → read_packet row ≡ packet_read q
 read_as_lem row q needs h = let r = read_is row q needs h in reads_in row r.0 ∙ ap packet_read r.1
 
-pub read-refused : (row : List ℕ) (m : ℕ) → read_packet row ≡ PacketRead.Refused m → (packet_refusal row ≡ m) × (packet_refusal row ≡ 0 → ⊥)
+pub read_refused : (row : List ℕ) (m : ℕ) → read_packet row ≡ PacketRead.Refused m → (packet_refusal row ≡ m) × (packet_refusal row ≡ 0 → ⊥)
 unfolding read_packet
-read-refused row m h = refused-by (packet_refusal row) m (packet_in row) (eqb (packet_refusal row) 0) refl h
+read_refused row m h = refused_by_lem (packet_refusal row) m (packet_in row) (eqb (packet_refusal row) 0) refl h
 
 -- a table whose numbers are all from a to b gives none but these
 unfoldable within : ℕ → ℕ → List Line → Bool
@@ -71,20 +71,20 @@ step : (t : Bool) (a b m g : ℕ) → a ≤ m → m ≤ b → ((g ≡ 0 → ⊥)
 step true a b m g l h f z = (l, h)
 step false a b m g l h f z = f z
 
-given-within : (a b : ℕ) (ls : List Line) → within a b ls ≡ true → (given ls ≡ 0 → ⊥) → (a ≤ given ls) × (given ls ≤ b)
+given_within : (a b : ℕ) (ls : List Line) → within a b ls ≡ true → (given ls ≡ 0 → ⊥) → (a ≤ given ls) × (given ls ≤ b)
 unfolding within
-given-within a b [] h = λ z. absurd (z refl)
-given-within a b (l ∷ ls) h =
+given_within a b [] h = λ z. absurd (z refl)
+given_within a b (l ∷ ls) h =
     let f = and_both (leb a l.number) (leb l.number b && within a b ls) h in
     let g = and_both (leb l.number b) (within a b ls) f.1 in
-    step l.holds a b l.number (given ls) (leb-true a l.number f.0) (leb-true l.number b g.0) (given-within a b ls g.1)
+    step l.holds a b l.number (given ls) (leb-true a l.number f.0) (leb-true l.number b g.0) (given_within a b ls g.1)
 
 -- no line of the table has the number 0
-pub packet-numbered : (row : List ℕ) → absent 0 (packet_lines row) ≡ true
+pub packet_numbered : (row : List ℕ) → absent 0 (packet_lines row) ≡ true
 unfolding frame_lines body_lines
-packet-numbered row = refl
+packet_numbered row = refl
 
 -- a packet is refused by 4 to 10
-pub packet-number : (row : List ℕ) → (packet_refusal row ≡ 0 → ⊥) → (4 ≤ packet_refusal row) × (packet_refusal row ≤ 10)
+pub packet_number : (row : List ℕ) → (packet_refusal row ≡ 0 → ⊥) → (4 ≤ packet_refusal row) × (packet_refusal row ≤ 10)
 unfolding packet_refusal frame_lines body_lines within
-packet-number row = given-within 4 10 (packet_lines row) refl
+packet_number row = given_within 4 10 (packet_lines row) refl

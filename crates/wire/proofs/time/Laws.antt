@@ -22,50 +22,50 @@ module _ (h m s f : ℕ) (hm : m < 60) (hs : s < 60) (hf : f < 10000000) where
   minutes : tick_at h m s f / 600000000 ≡ h * 60 + m
   minutes = sym (div-div-eq-div-mul (tick_at h m s f) 10000000 60) ∙ ap (λ (x : ℕ). x / 60) seconds ∙ digits_div (h * 60 + m) hs
 
-  pub hour-at : hour_of (tick_at h m s f) ≡ h
+  pub hour_at : hour_of (tick_at h m s f) ≡ h
   unfolding hour_of
-  hour-at = sym (div-div-eq-div-mul (tick_at h m s f) 600000000 60) ∙ ap (λ (x : ℕ). x / 60) minutes ∙ digits_div h hm
+  hour_at = sym (div-div-eq-div-mul (tick_at h m s f) 600000000 60) ∙ ap (λ (x : ℕ). x / 60) minutes ∙ digits_div h hm
 
-  pub minute-at : minute_of (tick_at h m s f) ≡ m
+  pub minute_at : minute_of (tick_at h m s f) ≡ m
   unfolding minute_of
-  minute-at = ap (λ (x : ℕ). x % 60) minutes ∙ digits_mod h hm
+  minute_at = ap (λ (x : ℕ). x % 60) minutes ∙ digits_mod h hm
 
   pub second_at : second_of (tick_at h m s f) ≡ s
   unfolding second_of
   second_at = ap (λ (x : ℕ). x % 60) seconds ∙ digits_mod (h * 60 + m) hs
 
-  pub fraction-at : fraction_of (tick_at h m s f) ≡ f
+  pub fraction_at : fraction_of (tick_at h m s f) ≡ f
   unfolding fraction_of tick_at
-  fraction-at = digits_mod ((h * 60 + m) * 60 + s) hf
+  fraction_at = digits_mod ((h * 60 + m) * 60 + s) hf
 
 -- a tick of day without its fraction has the same hour, minute and second
 
 module _ (t : ℕ) where
-  pub hour-whole : hour_of (without_fraction t) ≡ hour_of t
+  pub hour_whole : hour_of (without_fraction t) ≡ hour_of t
   unfolding hour_of
-  hour-whole = omega arith
+  hour_whole = omega arith
 
-  pub minute-whole : minute_of (without_fraction t) ≡ minute_of t
+  pub minute_whole : minute_of (without_fraction t) ≡ minute_of t
   unfolding minute_of
-  minute-whole = omega arith
+  minute_whole = omega arith
 
-  pub second-whole : second_of (without_fraction t) ≡ second_of t
+  pub second_whole : second_of (without_fraction t) ≡ second_of t
   unfolding second_of
-  second-whole = omega arith
+  second_whole = omega arith
 
-  pub fraction-whole : fraction_of (without_fraction t) ≡ 0
+  pub fraction_whole : fraction_of (without_fraction t) ≡ 0
   unfolding fraction_of
-  fraction-whole = omega arith
+  fraction_whole = omega arith
 
 -- and all of them are small
 
-pub hour-below : (t : ℕ) → t < ticks_of_day → hour_of t < 24
+pub hour_below : (t : ℕ) → t < ticks_of_day → hour_of t < 24
 unfolding hour_of
-hour-below t l = omega arith
+hour_below t l = omega arith
 
-pub minute-below : (t : ℕ) → minute_of t < 60
+pub minute_below : (t : ℕ) → minute_of t < 60
 unfolding minute_of
-minute-below t = omega arith
+minute_below t = omega arith
 
 pub second_below : (t : ℕ) → second_of t < 60
 unfolding second_of

@@ -14,74 +14,74 @@ use Rattle.wire.specs.declared.words.TimeRead.{TimeRead}
 use Rattle.wire.specs.declared.words.WordsWritten.{WordsWritten}
 use Rattle.wire.specs.Digits.{pick, digits, num, below, packed, unpacked}
 use Rattle.wire.specs.Numbers.{◌if◌, given}
-use Rattle.wire.proofs.numbers.Laws.{given-zero, quiet-first}
+use Rattle.wire.proofs.numbers.Laws.{given_zero, quiet_first}
 use Rattle.wire.specs.Time.{ticks_of_day, hour_of, minute_of, second_of, fraction_of, tick_at}
 use Rattle.wire.specs.Words.{time_digits, words_of, writable, decimal, field, day_in, hour_in, minute_in, second_in, fraction_in, tick_in, in_range, digits_refusal, read_digits, time_read, read_words, zero_words, words_or_zero, write_words}
-use Rattle.wire.proofs.digits.Laws.{and_left, and_right, picked, zero_or, below_both, below_more, zeros, cut, digits-below, written, read-part, part-below, unpack-packed, pack-unpacked, unpacked-length}
-use Rattle.wire.proofs.time.Laws.{parts, hour-at, minute-at, second_at, fraction-at}
-use Rattle.wire.proofs.words.Laws.{writable-day, writable-tick, read_done}
+use Rattle.wire.proofs.digits.Laws.{and_left, and_right, picked, zero_or, below_both, below_more, zeros, cut, digits_below, written, read_part, part_below, unpack_packed, pack_unpacked, unpacked_length}
+use Rattle.wire.proofs.time.Laws.{parts, hour_at, minute_at, second_at, fraction_at}
+use Rattle.wire.proofs.words.Laws.{writable_day, writable_tick, read_done}
 
 -- WRITTEN, THEN READ
 
 module _ (day tick : ℕ) where
-  digits-ten : below 10 (time_digits day tick) ≡ true
+  digits_ten : below 10 (time_digits day tick) ≡ true
   unfolding time_digits below
-  digits-ten = simp (below_both 10, digits-below 10 (lit< tt))
+  digits_ten = simp (below_both 10, digits_below 10 (lit< tt))
 
   pub digits_decimal : decimal (time_digits day tick) ≡ true
   unfolding decimal time_digits digits below
-  digits_decimal = ap (λ (t : Bool). t && true) digits-ten
+  digits_decimal = ap (λ (t : Bool). t && true) digits_ten
 
   same_digits : unpacked 16 4 (words_of day tick) ≡ time_digits day tick
   unfolding words_of time_digits digits
-  same_digits = unpack-packed 16 (lit< tt) 4 5 (time_digits day tick) refl (below_more 10 16 (lit≤ tt) (time_digits day tick) digits-ten)
+  same_digits = unpack_packed 16 (lit< tt) 4 5 (time_digits day tick) refl (below_more 10 16 (lit≤ tt) (time_digits day tick) digits_ten)
 
   module _ (w : writable day tick ≡ true) where
-    pub day-back : day_in (time_digits day tick) ≡ day
+    pub day_back : day_in (time_digits day tick) ≡ day
     unfolding field time_digits digits
-    day-back = written 10 (lit< tt) 3 day (let d = writable-day day tick w in omega arith)
+    day_back = written 10 (lit< tt) 3 day (let d = writable_day day tick w in omega arith)
 
-    hour-back : hour_in (time_digits day tick) ≡ hour_of tick
+    hour_back : hour_in (time_digits day tick) ≡ hour_of tick
     unfolding field time_digits digits hour_of
-    hour-back = written 10 (lit< tt) 2 (tick / 36000000000) (let t = writable-tick day tick w in omega arith)
+    hour_back = written 10 (lit< tt) 2 (tick / 36000000000) (let t = writable_tick day tick w in omega arith)
 
-    minute-back : minute_in (time_digits day tick) ≡ minute_of tick
+    minute_back : minute_in (time_digits day tick) ≡ minute_of tick
     unfolding field time_digits digits minute_of
-    minute-back = written 10 (lit< tt) 2 (tick / 600000000 % 60) (omega arith)
+    minute_back = written 10 (lit< tt) 2 (tick / 600000000 % 60) (omega arith)
 
     second_back : second_in (time_digits day tick) ≡ second_of tick
     unfolding field time_digits digits second_of
     second_back = written 10 (lit< tt) 2 (tick / 10000000 % 60) (omega arith)
 
-    fraction-back : fraction_in (time_digits day tick) ≡ fraction_of tick
+    fraction_back : fraction_in (time_digits day tick) ≡ fraction_of tick
     unfolding field time_digits digits fraction_of
-    fraction-back = written 10 (lit< tt) 7 (tick % 10000000) (omega arith)
+    fraction_back = written 10 (lit< tt) 7 (tick % 10000000) (omega arith)
 
-    back-in-range : in_range day (hour_of tick) (minute_of tick) (second_of tick) ≡ true
+    back_in_range : in_range day (hour_of tick) (minute_of tick) (second_of tick) ≡ true
     unfolding in_range hour_of minute_of second_of
-    back-in-range =
-        let d = writable-day day tick w in
-        let t = writable-tick day tick w in
+    back_in_range =
+        let d = writable_day day tick w in
+        let t = writable_tick day tick w in
         simp (le-leb 1 day (omega arith), le-leb day 366 (omega arith), le-leb (tick / 36000000000) 23 (omega arith), le-leb (tick / 600000000 % 60) 59 (omega arith), le-leb (tick / 10000000 % 60) 59 (omega arith))
 
-    pub digits-in-range : in_range (day_in (time_digits day tick)) (hour_in (time_digits day tick)) (minute_in (time_digits day tick)) (second_in (time_digits day tick)) ≡ true
-    digits-in-range = simp (day-back, hour-back, minute-back, second_back) back-in-range
+    pub digits_in_range_lem : in_range (day_in (time_digits day tick)) (hour_in (time_digits day tick)) (minute_in (time_digits day tick)) (second_in (time_digits day tick)) ≡ true
+    digits_in_range_lem = simp (day_back, hour_back, minute_back, second_back) back_in_range
 
-    pub tick-back : tick_in (time_digits day tick) ≡ tick
-    tick-back = simp (hour-back, minute-back, second_back, fraction-back, parts)
+    pub tick_back : tick_in (time_digits day tick) ≡ tick
+    tick_back = simp (hour_back, minute_back, second_back, fraction_back, parts)
 
-    pub read-written : read_words (words_of day tick) ≡ time_read 0 day tick
+    pub read_written : read_words (words_of day tick) ≡ time_read 0 day tick
     unfolding read_words
-    read-written =
+    read_written =
         ap read_digits same_digits
-        ∙ read_done (time_digits day tick) digits_decimal digits-in-range
-        ∙ ap₂ (time_read 0) day-back tick-back
+        ∙ read_done (time_digits day tick) digits_decimal digits_in_range_lem
+        ∙ ap₂ (time_read 0) day_back tick_back
 
 -- READ, THEN WRITTEN
 
-in-range : (day hour minute second : ℕ) → in_range day hour minute second ≡ true → (1 ≤ day) × (day ≤ 366) × (hour ≤ 23) × (minute ≤ 59) × (second ≤ 59)
+in_range_lem : (day hour minute second : ℕ) → in_range day hour minute second ≡ true → (1 ≤ day) × (day ≤ 366) × (hour ≤ 23) × (minute ≤ 59) × (second ≤ 59)
 unfolding in_range
-in-range day hour minute second e =
+in_range_lem day hour minute second e =
     let f = and_right (leb 1 day) (leb day 366 && (leb hour 23 && (leb minute 59 && leb second 59))) e in
     let g = and_right (leb day 366) (leb hour 23 && (leb minute 59 && leb second 59)) f in
     let h = and_right (leb hour 23) (leb minute 59 && leb second 59) g in (
@@ -115,42 +115,42 @@ module _ (ds : List ℕ) (l : length ds ≡ 20) (x : decimal ds ≡ true) (r : i
 
   small : fraction_in ds < 10000000
   unfolding field
-  small = part-below 10 (lit< tt) 12 7 ds (omega arith) ten
+  small = part_below 10 (lit< tt) 12 7 ds (omega arith) ten
 
-  hour-again : hour_of (tick_in ds) ≡ hour_in ds
-  hour-again = let q = in-range _ _ _ _ r in hour-at (hour_in ds) (minute_in ds) (second_in ds) (fraction_in ds) (omega arith) (omega arith) small
+  hour_again : hour_of (tick_in ds) ≡ hour_in ds
+  hour_again = let q = in_range_lem _ _ _ _ r in hour_at (hour_in ds) (minute_in ds) (second_in ds) (fraction_in ds) (omega arith) (omega arith) small
 
-  minute-again : minute_of (tick_in ds) ≡ minute_in ds
-  minute-again = let q = in-range _ _ _ _ r in minute-at (hour_in ds) (minute_in ds) (second_in ds) (fraction_in ds) (omega arith) (omega arith) small
+  minute_again : minute_of (tick_in ds) ≡ minute_in ds
+  minute_again = let q = in_range_lem _ _ _ _ r in minute_at (hour_in ds) (minute_in ds) (second_in ds) (fraction_in ds) (omega arith) (omega arith) small
 
-  second-again : second_of (tick_in ds) ≡ second_in ds
-  second-again = let q = in-range _ _ _ _ r in second_at (hour_in ds) (minute_in ds) (second_in ds) (fraction_in ds) (omega arith) (omega arith) small
+  second_again : second_of (tick_in ds) ≡ second_in ds
+  second_again = let q = in_range_lem _ _ _ _ r in second_at (hour_in ds) (minute_in ds) (second_in ds) (fraction_in ds) (omega arith) (omega arith) small
 
-  fraction-again : fraction_of (tick_in ds) ≡ fraction_in ds
-  fraction-again = let q = in-range _ _ _ _ r in fraction-at (hour_in ds) (minute_in ds) (second_in ds) (fraction_in ds) (omega arith) (omega arith) small
+  fraction_again : fraction_of (tick_in ds) ≡ fraction_in ds
+  fraction_again = let q = in_range_lem _ _ _ _ r in fraction_at (hour_in ds) (minute_in ds) (second_in ds) (fraction_in ds) (omega arith) (omega arith) small
 
-  pub digits-again : time_digits (day_in ds) (tick_in ds) ≡ ds
+  pub digits_again : time_digits (day_in ds) (tick_in ds) ≡ ds
   unfolding time_digits field
-  digits-again =
+  digits_again =
       cc (
         whole,
         front,
         end,
-        hour-again,
-        minute-again,
-        second-again,
-        fraction-again,
-        read-part 10 (lit< tt) 3 3 ds (omega arith) ten,
-        read-part 10 (lit< tt) 6 2 ds (omega arith) ten,
-        read-part 10 (lit< tt) 8 2 ds (omega arith) ten,
-        read-part 10 (lit< tt) 10 2 ds (omega arith) ten,
-        read-part 10 (lit< tt) 12 7 ds (omega arith) ten,
+        hour_again,
+        minute_again,
+        second_again,
+        fraction_again,
+        read_part 10 (lit< tt) 3 3 ds (omega arith) ten,
+        read_part 10 (lit< tt) 6 2 ds (omega arith) ten,
+        read_part 10 (lit< tt) 8 2 ds (omega arith) ten,
+        read_part 10 (lit< tt) 10 2 ds (omega arith) ten,
+        read_part 10 (lit< tt) 12 7 ds (omega arith) ten,
       )
 
-  pub again-writable : writable (day_in ds) (tick_in ds) ≡ true
+  pub again_writable : writable (day_in ds) (tick_in ds) ≡ true
   unfolding writable tick_at
-  again-writable =
-      let q = in-range _ _ _ _ r in
+  again_writable =
+      let q = in_range_lem _ _ _ _ r in
       simp (le-leb 1 (day_in ds) (omega arith), le-leb (day_in ds) 366 (omega arith), lt-ltb (tick_in ds) ticks_of_day (omega (arith, small)))
 
 -- the number of a reading is that of its table
@@ -168,13 +168,13 @@ module _ (ws : List ℕ) (l : length ws ≡ 5) (b : below 65536 ws ≡ true) (n 
   tested : (decimal ds ≡ true) × (in_range (day_in ds) (hour_in ds) (minute_in ds) (second_in ds) ≡ true)
   unfolding digits_refusal
   tested =
-      let in-range : Bool = in_range (day_in ds) (hour_in ds) (minute_in ds) (second_in ds) in
-      let q = (given-zero (17 if not (decimal ds) ∷ 11 if not in-range ∷ []) refl).0 (sym (read_number_lem ws) ∙ n) in
-      let a = quiet-first (not (decimal ds)) _ q in
-      (not-false (decimal ds) a.0, not-false in-range (quiet-first (not in-range) true a.1).0)
+      let in_range_lem : Bool = in_range (day_in ds) (hour_in ds) (minute_in ds) (second_in ds) in
+      let q = (given_zero (17 if not (decimal ds) ∷ 11 if not in_range_lem ∷ []) refl).0 (sym (read_number_lem ws) ∙ n) in
+      let a = quiet_first (not (decimal ds)) _ q in
+      (not-false (decimal ds) a.0, not-false in_range_lem (quiet_first (not in_range_lem) true a.1).0)
 
   twenty : length ds ≡ 20
-  twenty = unpacked-length 16 (lit< tt) 4 ws ∙ ap (λ (k : ℕ). k * 4) l
+  twenty = unpacked_length 16 (lit< tt) 4 ws ∙ ap (λ (k : ℕ). k * 4) l
 
   read_as_lem : read_words ws ≡ time_read 0 (day_in ds) (tick_in ds)
   unfolding read_words
@@ -185,50 +185,50 @@ module _ (ws : List ℕ) (l : length ws ≡ 5) (b : below 65536 ws ≡ true) (n 
   unfolding words_of
   written_read =
       ap (λ (t : TimeRead). words_of t.day t.tick.ticks) read_as_lem
-      ∙ ap (packed 16 4 5) (digits-again ds twenty tested.0 tested.1)
+      ∙ ap (packed 16 4 5) (digits_again ds twenty tested.0 tested.1)
       ∙ ap (λ (k : ℕ). packed 16 4 k ds) (sym l)
-      ∙ pack-unpacked 16 (lit< tt) 4 ws b
+      ∙ pack_unpacked 16 (lit< tt) 4 ws b
 
-  pub read-writable : writable (read_words ws).day (read_words ws).tick.ticks ≡ true
-  read-writable = ap (λ (t : TimeRead). writable t.day t.tick.ticks) read_as_lem ∙ again-writable ds twenty tested.0 tested.1
+  pub read_writable : writable (read_words ws).day (read_words ws).tick.ticks ≡ true
+  read_writable = ap (λ (t : TimeRead). writable t.day t.tick.ticks) read_as_lem ∙ again_writable ds twenty tested.0 tested.1
 
 -- THE CALLS
 
 may_write : (day tick : ℕ) → (write_words day tick).number ≡ 0 → writable day tick ≡ true
 unfolding write_words
-may_write day tick e = not-false (writable day tick) (quiet-first (not (writable day tick)) true ((given-zero (11 if not (writable day tick) ∷ []) refl).0 e)).0
+may_write day tick e = not-false (writable day tick) (quiet_first (not (writable day tick)) true ((given_zero (11 if not (writable day tick) ∷ []) refl).0 e)).0
 
 -- words that are written read back as the same day and tick of day
 pub read_back : (day tick : ℕ) → (write_words day tick).number ≡ 0 → read_words (write_words day tick).words ≡ time_read 0 day tick
 unfolding write_words words_or_zero
-read_back day tick e = let w = may_write day tick e in simp w (read-written day tick w)
+read_back day tick e = let w = may_write day tick e in simp w (read_written day tick w)
 
 -- words that read are written again as the same words
-pub write-back : (ws : List ℕ) → length ws ≡ 5 → below 65536 ws ≡ true → (read_words ws).number ≡ 0
+pub write_back : (ws : List ℕ) → length ws ≡ 5 → below 65536 ws ≡ true → (read_words ws).number ≡ 0
     → write_words (read_words ws).day (read_words ws).tick.ticks ≡ record { number = 0; words = ws }
 unfolding write_words words_or_zero
-write-back ws l b n = simp (read-writable ws l b n, written_read ws l b n)
+write_back ws l b n = simp (read_writable ws l b n, written_read ws l b n)
 
 -- so no two times of a year are written as the same words
-pub words-differ : (d t d' t' : ℕ) → (write_words d t).number ≡ 0 → (write_words d' t').number ≡ 0 → (write_words d t).words ≡ (write_words d' t').words → (d ≡ d') × (t ≡ t')
-words-differ d t d' t' w w' e =
+pub words_differ : (d t d' t' : ℕ) → (write_words d t).number ≡ 0 → (write_words d' t').number ≡ 0 → (write_words d t).words ≡ (write_words d' t').words → (d ≡ d') × (t ≡ t')
+words_differ d t d' t' w w' e =
     let q : time_read 0 d t ≡ time_read 0 d' t' = sym (read_back d t w) ∙ ap read_words e ∙ read_back d' t' w' in
     (ap (λ (r : TimeRead). r.day) q, ap (λ (r : TimeRead). r.tick.ticks) q)
 
 -- beside a refusal stand zeros
-pub read-zeros : (ws : List ℕ) → ((read_words ws).number ≡ 0 → ⊥) → read_words ws ≡ time_read (digits_refusal (unpacked 16 4 ws)) 0 0
+pub read_zeros : (ws : List ℕ) → ((read_words ws).number ≡ 0 → ⊥) → read_words ws ≡ time_read (digits_refusal (unpacked 16 4 ws)) 0 0
 unfolding read_words read_digits
-read-zeros ws h = simp (ne_eqb (digits_refusal (unpacked 16 4 ws)) 0 (λ e. h (read_number_lem ws ∙ e)))
+read_zeros ws h = simp (ne_eqb (digits_refusal (unpacked 16 4 ws)) 0 (λ e. h (read_number_lem ws ∙ e)))
 
-pub write-zeros : (day tick : ℕ) → ((write_words day tick).number ≡ 0 → ⊥) → write_words day tick ≡ record { number = 11; words = zero_words }
+pub write_zeros : (day tick : ℕ) → ((write_words day tick).number ≡ 0 → ⊥) → write_words day tick ≡ record { number = 11; words = zero_words }
 unfolding write_words words_or_zero
-write-zeros day tick = go (writable day tick)
+write_zeros day tick = go (writable day tick)
   where
     go : (t : Bool) → (given (11 if not t ∷ []) ≡ 0 → ⊥) → ◌≡◌ {A = WordsWritten} (record { number = given (11 if not t ∷ []); words = pick t (words_of day tick) zero_words }) (record { number = 11; words = zero_words })
     go true h = absurd (h refl)
     go false h = refl
 
 -- five zero words are no time
-pub zero-unread : (read_words zero_words).number ≡ 11
+pub zero_unread : (read_words zero_words).number ≡ 11
 unfolding read_words read_digits digits_refusal decimal field in_range unpacked digits below num
-zero-unread = refl
+zero_unread = refl

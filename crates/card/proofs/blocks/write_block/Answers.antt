@@ -5,24 +5,24 @@ use mathlib.Core.Path.{◌≡◌, sym, ◌∙◌}
 use native.Mathlib.Omega.{arith}
 use lib.ListN.{length}
 use Rattle.wire.proofs.digits.Laws.{below_each}
-use Rattle.card.proofs.registers.Laws.{queue-within}
-use Rattle.card.proofs.blocks.Laws.{block-18, block_3, block_0}
+use Rattle.card.proofs.registers.Laws.{queue_within}
+use Rattle.card.proofs.blocks.Laws.{block_18, block_3, block_0}
 use borrow.Author.Rules.{rules}
 use Rattle.card.proofs.blocks.write_block.Goals as goal
 use Rattle.card.proofs.blocks.write_block.Goals.{then-free-row, else-free-row}
 
 pub overflow_sub-free : goal.overflow_sub-free
-overflow_sub-free c = queue-within _ (sym c.is_lawful.ensures ∙ c.if-is_lawful.true)
+overflow_sub-free c = queue_within _ (sym c.is_lawful.ensures ∙ c.if-is_lawful.true)
 
 pub store_row-requires : goal.store_row-requires
 store_row-requires c =
     let l : length c.args.card.queue.bytes ≡ 64 = search rules in
-    let f : c.args.card.queue.fill ≤ 64 = queue-within _ (sym c.is_lawful.ensures ∙ c.if-is_lawful.true) in
+    let f : c.args.card.queue.fill ≤ 64 = queue_within _ (sym c.is_lawful.ensures ∙ c.if-is_lawful.true) in
     (l, elim c.if-free-row.branch [ then-free-row w ↦ omega arith | else-free-row w ↦ omega arith ], elim c.if-free-row.branch [ then-free-row w ↦ omega arith | else-free-row w ↦ omega arith ])
 
 pub overflow_add-c : goal.overflow_add-c
 overflow_add-c c =
-    let f : c.args.card.queue.fill ≤ 64 = queue-within _ (sym c.is_lawful.ensures ∙ c.if-is_lawful.true) in
+    let f : c.args.card.queue.fill ≤ 64 = queue_within _ (sym c.is_lawful.ensures ∙ c.if-is_lawful.true) in
     elim c.if-free-row.branch [ then-free-row w ↦ omega arith | else-free-row w ↦ omega arith ]
 
 pub returns-after-free-row : goal.returns-after-free-row
@@ -37,4 +37,4 @@ returns-after-free-row c =
     ]
 
 pub returns-else-is_lawful : goal.returns-else-is_lawful
-returns-else-is_lawful c = block-18 _ _ _ c.is_lawful.ensures c.if-is_lawful.false
+returns-else-is_lawful c = block_18 _ _ _ c.is_lawful.ensures c.if-is_lawful.false

@@ -4,7 +4,7 @@ use mathlib.Core.Path.{sym, ap, ◌∙◌}
 use mathlib.Core.Bool.{Bool}
 use Rattle.wire.specs.Digits.{pick}
 use Rattle.card.specs.Registers.{shown}
-use Rattle.card.proofs.registers.Laws.{shows-time, shows-event, shows-missed}
+use Rattle.card.proofs.registers.Laws.{shows_time, shows_event, shows_missed}
 use Rattle.card.proofs.registers.show.Goals as goal
 
 pub returns-then-reg-eq0 : goal.returns-then-reg-eq0
@@ -14,12 +14,12 @@ returns-then-reg-eq0 c = ap (shown c.args.card) (sym c.if-reg-eq0.true)
 pub returns-then-reg-le5 : goal.returns-then-reg-le5
 returns-then-reg-le5 c =
     let s = c.args in
-    c.latch_word.ensures ∙ shows-time s.card s.reg c.if-reg-eq0.false c.if-reg-le5.true
+    c.latch_word.ensures ∙ shows_time s.card s.reg c.if-reg-eq0.false c.if-reg-le5.true
 
 pub returns-then-reg-le10 : goal.returns-then-reg-le10
 returns-then-reg-le10 c =
     let s = c.args in
-    c.latch_word-then-reg-le10.ensures ∙ shows-event s.card s.reg c.if-reg-eq0.false c.if-reg-le5.false c.if-reg-le10.true
+    c.latch_word-then-reg-le10.ensures ∙ shows_event s.card s.reg c.if-reg-eq0.false c.if-reg-le5.false c.if-reg-le10.true
 
 pub returns-in-11 : goal.returns-in-11
 unfolding shown
@@ -53,4 +53,4 @@ pub returns-in_default : goal.returns-in_default
 returns-in_default c =
     let s = c.args in
     let r = c.in_default.in_default-own.rest in
-    shows-missed s.card s.reg c.if-reg-le10.false r.0.0.0.0.0.1 r.0.0.0.0.1 r.0.0.0.1 r.0.0.1 r.0.1 r.1
+    shows_missed s.card s.reg c.if-reg-le10.false r.0.0.0.0.0.1 r.0.0.0.0.1 r.0.0.0.1 r.0.0.1 r.0.1 r.1

@@ -2,20 +2,20 @@
 -- Assumes nothing.
 use mathlib.Core.Path.{sym, ◌∙◌}
 use native.Mathlib.Omega.{arith}
-use Rattle.card.proofs.registers.Laws.{queue-room, fifo-18, fifo-3, fifo-joins}
+use Rattle.card.proofs.registers.Laws.{queue_room, fifo_18, fifo_3, fifo_joins}
 use Rattle.card.proofs.registers.write_fifo.Goals as goal
 
 pub store-requires : goal.store-requires
-store-requires c = queue-room _ (sym c.is_lawful.ensures ∙ c.if-is_lawful.true) c.if-fill-eq64.false
+store-requires c = queue_room _ (sym c.is_lawful.ensures ∙ c.if-is_lawful.true) c.if-fill-eq64.false
 
 pub overflow_add-c : goal.overflow_add-c
-overflow_add-c c = omega (arith, queue-room _ (sym c.is_lawful.ensures ∙ c.if-is_lawful.true) c.if-fill-eq64.false)
+overflow_add-c c = omega (arith, queue_room _ (sym c.is_lawful.ensures ∙ c.if-is_lawful.true) c.if-fill-eq64.false)
 
 pub returns-then-fill-eq64 : goal.returns-then-fill-eq64
-returns-then-fill-eq64 c = fifo-3 _ _ _ c.is_lawful.ensures c.if-is_lawful.true c.if-fill-eq64.true
+returns-then-fill-eq64 c = fifo_3 _ _ _ c.is_lawful.ensures c.if-is_lawful.true c.if-fill-eq64.true
 
 pub returns-else-fill-eq64 : goal.returns-else-fill-eq64
-returns-else-fill-eq64 c = fifo-joins _ _ _ c.is_lawful.ensures c.if-is_lawful.true c.if-fill-eq64.false _ c.store.ensures
+returns-else-fill-eq64 c = fifo_joins _ _ _ c.is_lawful.ensures c.if-is_lawful.true c.if-fill-eq64.false _ c.store.ensures
 
 pub returns-else-is_lawful : goal.returns-else-is_lawful
-returns-else-is_lawful c = fifo-18 _ _ _ c.is_lawful.ensures c.if-is_lawful.false
+returns-else-is_lawful c = fifo_18 _ _ _ c.is_lawful.ensures c.if-is_lawful.false

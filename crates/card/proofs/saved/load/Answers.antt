@@ -2,11 +2,11 @@
 -- Assumes nothing.
 use mathlib.Core.Path.{sym, ◌∙◌}
 use Rattle.parts.specs.declared.saved.SettingsRead.TheVariants as SettingsRead
-use Rattle.card.proofs.saved.Calls.{load-18, load_read}
+use Rattle.card.proofs.saved.Calls.{load_18, load_read}
 use Rattle.card.proofs.saved.load.Goals as goal
 
 pub returns-then-not-is_lawful : goal.returns-then-not-is_lawful
-returns-then-not-is_lawful c = load-18 _ _ (sym c.is_lawful.ensures ∙ c.if-not-is_lawful.true)
+returns-then-not-is_lawful c = load_18 _ _ (sym c.is_lawful.ensures ∙ c.if-not-is_lawful.true)
 
 pub returns-in-Refused : goal.returns-in-Refused
 returns-in-Refused c = load_read _ _ (sym c.is_lawful.ensures ∙ c.if-not-is_lawful.false) SettingsRead.Refused (sym c.in-Refused.is ∙ c.load_settings-read.ensures)

@@ -2,9 +2,9 @@
 -- Assumes nothing.
 use mathlib.Core.Path.{ap, ◌∙◌}
 use Rattle.card.specs.Setting.{set_time, on_clock}
-use Rattle.card.proofs.setting.Laws.{on-clock}
+use Rattle.card.proofs.setting.Laws.{on_clock_lem}
 use Rattle.card.proofs.setting.set_time.Goals as goal
 
 pub returns : goal.returns
 unfolding set_time
-returns c = c.with_clock.ensures ∙ ap (on_clock c.args.card) c.set_time.ensures ∙ on-clock _ _ _
+returns c = c.with_clock.ensures ∙ ap (on_clock c.args.card) c.set_time.ensures ∙ on_clock_lem _ _ _

@@ -2,7 +2,7 @@
 -- what is left of the row.
 -- Assumes nothing.
 use native.Mathlib.Omega.{arith}
-use Rattle.clock.proofs.waiting.Window.{held_none, held_more, brief, filled-all, filled-full}
+use Rattle.clock.proofs.waiting.Window.{held_none, held_more, brief, filled_all, filled_full}
 use Rattle.clock.proofs.waiting.Heard as heard
 use Rattle.clock.proofs.waiting.list.Goals as goal
 
@@ -18,7 +18,7 @@ shape_of-row-then-ticks-at c = (c.loop-i.invariant _ c.sources_from-first.ensure
 pub returns-then-ticks-at : goal.returns-then-ticks-at
 returns-then-ticks-at c =
     let s = c.sources_from-first.ensures in
-    let f = filled-all _ _ _ _ _ _ _ (c.loop-i.invariant _ s) (rw c.least-at.ensures at c.if-ticks-at.true) in
+    let f = filled_all _ _ _ _ _ _ _ (c.loop-i.invariant _ s) (rw c.least-at.ensures at c.if-ticks-at.true) in
     rw c.told.ensures (heard.told _ _ _ _ _ _ _ s c.requires.1 f)
 
 pub offset_bounds-row-i : goal.offset_bounds-row-i
@@ -46,7 +46,7 @@ shape_of-row-then-ticks-least c = (c.loop-i.invariant _ c.sources_from-first.ens
 pub returns-then-ticks-least : goal.returns-then-ticks-least
 returns-then-ticks-least c =
     let s = c.sources_from-first.ensures in
-    let f = filled-all _ _ _ _ _ _ _ (c.loop-i.invariant _ s) (rw c.least.ensures at c.if-ticks-least.true) in
+    let f = filled_all _ _ _ _ _ _ _ (c.loop-i.invariant _ s) (rw c.least.ensures at c.if-ticks-least.true) in
     rw c.told-then-ticks-least.ensures (heard.told _ _ _ _ _ _ _ s c.requires.1 f)
 
 pub shape_of-row : goal.shape_of-row
@@ -57,5 +57,5 @@ returns c =
     let s = c.sources_from-first.ensures in
     let p = c.requires in
     let m = rw c.least.ensures at c.if-ticks-least.false in
-    let f = filled-full _ _ _ _ _ _ _ p.2 p.1 (c.loop-i.invariant _ s) c.loop-i-test.false m in
+    let f = filled_full _ _ _ _ _ _ _ p.2 p.1 (c.loop-i.invariant _ s) c.loop-i-test.false m in
     rw c.told-2.ensures (heard.told _ _ _ _ _ _ _ s p.1 f)

@@ -3,7 +3,7 @@
 use mathlib.Core.Path.{sym, ap, ap₂, ◌∙◌}
 use Rattle.dividers.specs.Pairs.{pair, measured}
 use Rattle.dividers.proofs.pairs.Laws.{within}
-use Rattle.dividers.proofs.nearest.Laws.{row_fits, row-n1}
+use Rattle.dividers.proofs.nearest.Laws.{row_fits, row_n1}
 use Rattle.dividers.proofs.nearest.with_n1.Goals as goal
 
 pub measure-requires : goal.measure-requires
@@ -12,4 +12,4 @@ measure-requires c =
 
 pub returns : goal.returns
 returns c =
-    c.measure.ensures ∙ ap (measured c.args.wanted) (ap₂ pair (sym (row-n1 c.args.wanted c.args.n1 c.requires.1.0 c.requires.1.1)) c.n2_for.ensures)
+    c.measure.ensures ∙ ap (measured c.args.wanted) (ap₂ pair (sym (row_n1 c.args.wanted c.args.n1 c.requires.1.0 c.requires.1.1)) c.n2_for.ensures)

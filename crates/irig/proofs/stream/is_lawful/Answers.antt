@@ -4,7 +4,7 @@ use mathlib.Core.Path.{◌∙◌}
 use native.Mathlib.Omega.{arith}
 use borrow.Author.Tests.{lt-ltb, le-ltb, eq-eqb, ne_eqb}
 use Rattle.irig.specs.Streams.{lawful}
-use Rattle.irig.proofs.stream.Laws.{drop-none}
+use Rattle.irig.proofs.stream.Laws.{drop_none}
 use Rattle.irig.proofs.stream.is_lawful.Goals as goal
 
 pub returns-then-stream-ge-ELEMENTS : goal.returns-then-stream-ge-ELEMENTS
@@ -13,7 +13,7 @@ returns-then-stream-ge-ELEMENTS c = simp (le-ltb _ _ c.if-stream-ge-ELEMENTS.tru
 
 pub returns-then-stream-eq0 : goal.returns-then-stream-eq0
 unfolding lawful
-returns-then-stream-eq0 c = simp (eq-eqb _ _ c.if-stream-eq0.true) (c.zeros_from-zeros.ensures ∙ drop-none _ _ c.if-stream-eq0.true)
+returns-then-stream-eq0 c = simp (eq-eqb _ _ c.if-stream-eq0.true) (c.zeros_from-zeros.ensures ∙ drop_none _ _ c.if-stream-eq0.true)
 
 pub returns : goal.returns
 unfolding lawful

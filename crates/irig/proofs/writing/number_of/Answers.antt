@@ -1,7 +1,7 @@
 -- `writing::number_of` meets its contract: words of 16 bits, and the seconds above them.
 -- Assumes nothing.
 use native.Mathlib.Omega.{arith}
-use Rattle.irig.proofs.writing.Laws.{number-holds, number_small}
+use Rattle.irig.proofs.writing.Laws.{number_holds, number_small}
 use Rattle.irig.proofs.writing.number_of.Goals as goal
 
 pub overflow_mul-days_and_hours : goal.overflow_mul-days_and_hours
@@ -23,4 +23,4 @@ pub overflow_add-result : goal.overflow_add-result
 overflow_add-result c = let n = number_small _ _ c.requires _ c.words_of-words.ensures in omega arith
 
 pub returns : goal.returns
-returns c = number-holds _ _ c.requires _ c.words_of-words.ensures
+returns c = number_holds _ _ c.requires _ c.words_of-words.ensures

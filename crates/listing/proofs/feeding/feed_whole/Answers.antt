@@ -9,8 +9,8 @@ use lib.ListN.{length, take, drop}
 use Rattle.card.specs.declared.card.Card.{Card}
 use Rattle.laws.specs.Calls.{fed}
 use Rattle.listing.specs.Listing.{goes_on}
-use Rattle.listing.proofs.feeding.Going.{next-goes, next-within, behind-all, lined-length}
-use Rattle.listing.proofs.feeding.Whole.{listed, whole-held, whole-over}
+use Rattle.listing.proofs.feeding.Going.{next_goes, next_within, behind_all, lined_length}
+use Rattle.listing.proofs.feeding.Whole.{listed, whole_held, whole_over}
 use Rattle.listing.proofs.feeding.feed_whole.Goals as goal
 
 -- whether a line more could be put
@@ -23,12 +23,12 @@ list-listed-requires c =
     let a = c.args in
     let e = c.next_end-n.ensures in
     let room = length a.row.now - a.at in
-    (c.fresh_card-fresh.ensures, omega (arith, e, next-within a.number room a.input.now), c.requires, λ z. next-goes a.number room a.input.now (omega (arith, e)))
+    (c.fresh_card-fresh.ensures, omega (arith, e, next_within a.number room a.input.now), c.requires, λ z. next_goes a.number room a.input.now (omega (arith, e)))
 
 pub overflow_sub-row-2 : goal.overflow_sub-row-2
 overflow_sub-row-2 c =
     let s = (listed _ _ _ _ _ _ _ c.list-listed.ensures c.next_end-n.ensures c.requires) in
-    omega (arith, s.going.lined.fits, lined-length _ _ _ _ _ _ _ s.going.lined)
+    omega (arith, s.going.lined.fits, lined_length _ _ _ _ _ _ _ s.going.lined)
 
 pub slice_bounds-hold-count : goal.slice_bounds-hold-count
 slice_bounds-hold-count c = let s = (listed _ _ _ _ _ _ _ c.list-listed.ensures c.next_end-n.ensures c.requires) in s.going.within
@@ -41,12 +41,12 @@ returns-then-goes_on c =
     let i = c.list-listed.result.taken in
     let xs = c.args.input.now in
     let s = (listed _ _ _ _ _ _ _ c.list-listed.ensures c.next_end-n.ensures c.requires) in
-    let g = goes _ _ _ _ _ (lined-length _ _ _ _ _ _ _ s.going.lined) c.goes_on.ensures in
-    whole-held _ _ _ _ _ _ _ _ s (g ∙ c.if-goes_on.true) _ (behind-all i xs) c.hold-card.result
+    let g = goes _ _ _ _ _ (lined_length _ _ _ _ _ _ _ s.going.lined) c.goes_on.ensures in
+    whole_held _ _ _ _ _ _ _ _ s (g ∙ c.if-goes_on.true) _ (behind_all i xs) c.hold-card.result
     (c.hold-card.ensures.card ∙ ap (λ (k : Card). fed k (take (length xs - i) (drop i xs))) c.fresh_card-fresh.ensures) c.hold-card.ensures.bytes _ c.stop.ensures
 
 pub returns : goal.returns
 returns c =
     let s = (listed _ _ _ _ _ _ _ c.list-listed.ensures c.next_end-n.ensures c.requires) in
-    let g = goes _ _ _ _ _ (lined-length _ _ _ _ _ _ _ s.going.lined) c.goes_on.ensures in
-    whole-over _ _ _ _ _ _ _ _ s (g ∙ c.if-goes_on.false) c.fresh_card-fresh.result c.fresh_card-fresh.ensures _ c.stop-2.ensures
+    let g = goes _ _ _ _ _ (lined_length _ _ _ _ _ _ _ s.going.lined) c.goes_on.ensures in
+    whole_over _ _ _ _ _ _ _ _ s (g ∙ c.if-goes_on.false) c.fresh_card-fresh.result c.fresh_card-fresh.ensures _ c.stop-2.ensures

@@ -4,12 +4,12 @@ use mathlib.Core.Path.{ap, ◌∙◌}
 use native.Mathlib.Omega.{arith}
 use Rattle.wire.proofs.digits.Laws.{below_each}
 use Rattle.card.specs.declared.blocks.BlockAnswer.{BlockAnswer}
-use Rattle.laws.proofs.Blocks.{block-fed}
+use Rattle.laws.proofs.Blocks.{block_fed}
 use Rattle.listing.proofs.feeding.hold.Goals as goal
 
 pub returns : goal.returns
 returns c =
     record {
-      card = ap (λ (r : BlockAnswer). r.card) c.write_block-b.ensures ∙ block-fed _ _;
+      card = ap (λ (r : BlockAnswer). r.card) c.write_block-b.ensures ∙ block_fed _ _;
       bytes = below_each 256 c.args.bytes.now (λ i. omega (arith, c.shared_slice_known-1.given i));
     }

@@ -6,7 +6,7 @@ use native.Mathlib.Omega.{arith}
 use lib.ListN.{length, take}
 use lib.Seq.{length-take-le}
 use Rattle.listing.specs.Listing.{goes_on}
-use Rattle.listing.proofs.feeding.Whole.{held-listed}
+use Rattle.listing.proofs.feeding.Whole.{held_listed}
 use borrow.Author.Rules.{rules}
 use Rattle.listing.proofs.feeding.list_held.Goals as goal
 
@@ -23,4 +23,4 @@ returns c =
     let q = c.args.queue in
     let l : length q.bytes ≡ 64 = search rules in
     let f : take (q.fill - 0) q.bytes ≡ take q.fill q.bytes = ap (λ (k : ℕ). take k q.bytes) (let e : q.fill - 0 ≡ q.fill = omega arith in e) in
-    held-listed q _ _ _ _ (take (q.fill - 0) q.bytes) f (ap length f ∙ length-take-le q.fill q.bytes (omega (arith, l, c.requires.0))) c.list.ensures
+    held_listed q _ _ _ _ (take (q.fill - 0) q.bytes) f (ap length f ∙ length-take-le q.fill q.bytes (omega (arith, l, c.requires.0))) c.list.ensures

@@ -2,28 +2,28 @@
 -- Assumes nothing.
 use native.Mathlib.Omega.{arith}
 use Rattle.wire.specs.Digits.{num}
-use Rattle.listing.proofs.lines.Laws.{decimal-length, byte-length, put-line}
+use Rattle.listing.proofs.lines.Laws.{decimal_length, byte_length, put_line_lem}
 use Rattle.listing.proofs.lines.put_line.Goals as goal
 
 pub put_digits-at-requires : goal.put_digits-at-requires
 put_digits-at-requires c = (c.requires.0, omega (arith, c.requires.1))
 
 pub put_byte-at-requires : goal.put_byte-at-requires
-put_byte-at-requires c = omega (arith, decimal-length (num 10 c.args.digits.now), c.put_digits-at.ensures.behind, c.put_digits-at.auto.row)
+put_byte-at-requires c = omega (arith, decimal_length (num 10 c.args.digits.now), c.put_digits-at.ensures.behind, c.put_digits-at.auto.row)
 
 pub put_small-at-requires : goal.put_small-at-requires
 put_small-at-requires c =
     omega
-    (arith, decimal-length (num 10 c.args.digits.now), byte-length c.args.answer (omega arith), c.put_digits-at.ensures.behind, c.put_digits-at.auto.row, c.put_byte-at.ensures.behind, c.put_byte-at.auto.row, c.requires.1)
+    (arith, decimal_length (num 10 c.args.digits.now), byte_length c.args.answer (omega arith), c.put_digits-at.ensures.behind, c.put_digits-at.auto.row, c.put_byte-at.ensures.behind, c.put_byte-at.auto.row, c.requires.1)
 
 pub put_byte-requires : goal.put_byte-requires
 put_byte-requires c =
     omega
-    (arith, decimal-length (num 10 c.args.digits.now), byte-length c.args.answer (omega (arith, c.ranges.answer)), c.put_digits-at.ensures.behind, c.put_digits-at.auto.row, c.put_byte-at.ensures.behind, c.put_byte-at.auto.row, c.put_small-at.ensures.behind, c.put_small-at.auto.row, c.requires.1)
+    (arith, decimal_length (num 10 c.args.digits.now), byte_length c.args.answer (omega (arith, c.ranges.answer)), c.put_digits-at.ensures.behind, c.put_digits-at.auto.row, c.put_byte-at.ensures.behind, c.put_byte-at.auto.row, c.put_small-at.ensures.behind, c.put_small-at.auto.row, c.requires.1)
 
 pub returns : goal.returns
 returns c =
-    put-line _ _ _ _ _ _ _ _ _ _ _ _ c.requires.1 (omega (arith, c.ranges.answer))
+    put_line_lem _ _ _ _ _ _ _ _ _ _ _ _ c.requires.1 (omega (arith, c.ranges.answer))
     c.put_digits-at.ensures
     c.put_byte-at.ensures
     c.put_small-at.ensures

@@ -2,7 +2,7 @@
 -- Assumes nothing.
 use borrow.Author.Tests.{le-ltb, lt-ltb}
 use Rattle.wire.specs.Digits.{below}
-use Rattle.wire.proofs.digits.Laws.{and-true}
+use Rattle.wire.proofs.digits.Laws.{and_true}
 use Rattle.parts.proofs.event.five_zero.Goals as goal
 
 pub returns-then-a-ge1 : goal.returns-then-a-ge1
@@ -23,4 +23,4 @@ returns-then-d-ge1 c = simp (lt-ltb _ _ c.if-a-ge1.false, lt-ltb _ _ c.if-b-ge1.
 
 pub returns : goal.returns
 unfolding below
-returns c = simp (lt-ltb _ _ c.if-a-ge1.false, lt-ltb _ _ c.if-b-ge1.false, lt-ltb _ _ c.if-c-ge1.false, lt-ltb _ _ c.if-d-ge1.false, and-true)
+returns c = simp (lt-ltb _ _ c.if-a-ge1.false, lt-ltb _ _ c.if-b-ge1.false, lt-ltb _ _ c.if-c-ge1.false, lt-ltb _ _ c.if-d-ge1.false, and_true)

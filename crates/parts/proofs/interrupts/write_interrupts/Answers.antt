@@ -3,7 +3,7 @@
 use Prim.Native.Nat.{ℕ}
 use mathlib.Core.Path.{sym, ap, ◌∙◌}
 use Rattle.parts.specs.Interrupts.{with_pending, interrupts_written}
-use Rattle.parts.proofs.interrupts.Laws.{writes-none}
+use Rattle.parts.proofs.interrupts.Laws.{writes_none}
 use Rattle.parts.proofs.interrupts.write_interrupts.Goals as goal
 
 pub returns-in-14 : goal.returns-in-14
@@ -23,4 +23,4 @@ unfolding interrupts_written
 returns-in-17 c = ap (λ (r : ℕ). interrupts_written c.args.interrupts r c.args.value) (sym c.in-17.is)
 
 pub returns-in_default : goal.returns-in_default
-returns-in_default c = let r = c.in_default.in_default-own.rest in writes-none c.args.interrupts c.args.reg c.args.value r.0.0.0.1 r.0.0.1 r.0.1 r.1
+returns-in_default c = let r = c.in_default.in_default-own.rest in writes_none c.args.interrupts c.args.reg c.args.value r.0.0.0.1 r.0.0.1 r.0.1 r.1

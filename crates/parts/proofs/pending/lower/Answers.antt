@@ -2,11 +2,11 @@
 -- Assumes nothing.
 use borrow.Author.Tests.{eq-eqb, ne_eqb}
 use Rattle.parts.specs.Pending.{lowered}
-use Rattle.parts.proofs.pending.Laws.{bit-within}
+use Rattle.parts.proofs.pending.Laws.{bit_within}
 use Rattle.parts.proofs.pending.lower.Goals as goal
 
 pub overflow_sub-result : goal.overflow_sub-result
-overflow_sub-result c = bit-within c.args.pending c.args.weight c.if-pending-weight-eq1.true
+overflow_sub-result c = bit_within c.args.pending c.args.weight c.if-pending-weight-eq1.true
 
 pub returns-then-pending-weight-eq1 : goal.returns-then-pending-weight-eq1
 unfolding lowered

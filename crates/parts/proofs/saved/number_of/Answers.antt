@@ -7,7 +7,7 @@ use mir.Val.{SFits}
 use mir.ValLaws.{to_z-of_z}
 use Rattle.wire.specs.Digits.{digits}
 use Rattle.parts.specs.Saved.{sign_bit}
-use Rattle.parts.proofs.saved.Laws.{number-bits}
+use Rattle.parts.proofs.saved.Laws.{number_bits}
 use borrow.Author.Rules.{rules}
 use Rattle.parts.proofs.saved.number_of.Goals as goal
 
@@ -18,4 +18,4 @@ returns c =
     let t = c.sign_bit.ensures.0 ∙ ap sign_bit (to_z-of_z w32 s.offset f) in
     let z = c.offset_size.ensures ∙ ap nat_abs (to_z-of_z w32 s.offset f) in
     ap (digits 2 40) (cc (c.format_number.ensures.0, c.modulation_bit.ensures.0, c.clock_bit.ensures.0, c.generator_bit.ensures.0, t, z))
-    ∙ number-bits s c.requires
+    ∙ number_bits s c.requires

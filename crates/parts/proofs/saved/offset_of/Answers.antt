@@ -2,11 +2,11 @@
 -- Assumes nothing.
 use borrow.Author.Tests.{ne_eqb}
 use native.Mathlib.Omega.{arith}
-use Rattle.wire.proofs.packets.Signs.{plain, negated, minus-fits}
+use Rattle.wire.proofs.packets.Signs.{plain, negated, minus_fits}
 use Rattle.parts.proofs.saved.offset_of.Goals as goal
 
 pub overflow_sub-result : goal.overflow_sub-result
-overflow_sub-result c = rw (plain c.args.size (omega (arith, c.requires))) (minus-fits c.args.size (omega (arith, c.requires)))
+overflow_sub-result c = rw (plain c.args.size (omega (arith, c.requires))) (minus_fits c.args.size (omega (arith, c.requires)))
 
 pub returns-in-1 : goal.returns-in-1
 returns-in-1 c = simp (c.in-1.is, negated c.args.size (omega (arith, c.requires)))

@@ -2,7 +2,7 @@
 -- Assumes nothing.
 use native.Mathlib.Omega.{arith}
 use lib.ListN.{length-set}
-use Rattle.parts.proofs.saved.Laws.{row-after}
+use Rattle.parts.proofs.saved.Laws.{row_after}
 use Rattle.parts.proofs.saved.save_settings.Goals as goal
 
 pub bounds-row-1 : goal.bounds-row-1
@@ -15,4 +15,4 @@ pub bounds-row-3 : goal.bounds-row-3
 bounds-row-3 c = simp length-set (omega arith)
 
 pub returns : goal.returns
-returns c = row-after c.args.s c.number_of-n.result c.args.row.now c.number_of-n.ensures c.requires.1
+returns c = row_after c.args.s c.number_of-n.result c.args.row.now c.number_of-n.ensures c.requires.1

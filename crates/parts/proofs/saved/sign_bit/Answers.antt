@@ -3,11 +3,11 @@
 use mir.Syntax.{w32}
 use mir.ValLaws.{to_z-of_z}
 use native.Mathlib.Omega.{arith}
-use Rattle.parts.proofs.saved.Laws.{sign-minus, sign-plus}
+use Rattle.parts.proofs.saved.Laws.{sign_minus, sign_plus}
 use Rattle.parts.proofs.saved.sign_bit.Goals as goal
 
 pub returns-then-offset-lt0 : goal.returns-then-offset-lt0
-returns-then-offset-lt0 c = (sign-minus c.args.offset (rw (to_z-of_z w32 c.args.offset c.ranges.offset) at c.if-offset-lt0.true), omega arith)
+returns-then-offset-lt0 c = (sign_minus c.args.offset (rw (to_z-of_z w32 c.args.offset c.ranges.offset) at c.if-offset-lt0.true), omega arith)
 
 pub returns-else-offset-lt0 : goal.returns-else-offset-lt0
-returns-else-offset-lt0 c = (sign-plus c.args.offset (rw (to_z-of_z w32 c.args.offset c.ranges.offset) at c.if-offset-lt0.false), omega arith)
+returns-else-offset-lt0 c = (sign_plus c.args.offset (rw (to_z-of_z w32 c.args.offset c.ranges.offset) at c.if-offset-lt0.false), omega arith)

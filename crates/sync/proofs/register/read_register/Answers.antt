@@ -4,7 +4,7 @@ use mathlib.Core.Path.{sym, ◌∙◌}
 use native.Mathlib.Omega.{arith}
 use Rattle.sync.specs.Register.{shown}
 use Rattle.sync.proofs.counting.Laws.{count_small}
-use Rattle.sync.proofs.lawful.Laws.{elapsed-within}
+use Rattle.sync.proofs.lawful.Laws.{elapsed_within}
 use Rattle.sync.proofs.register.read_register.Goals as goal
 use Rattle.sync.proofs.register.read_register.Goals.{then-board, else-board}
 
@@ -12,7 +12,7 @@ pub returns-then-not-is_lawful : goal.returns-then-not-is_lawful
 returns-then-not-is_lawful c = simp (sym c.is_lawful.ensures ∙ c.if-not-is_lawful.true)
 
 pub count_at-count-requires : goal.count_at-count-requires
-count_at-count-requires c = elapsed-within _ (sym c.is_lawful.ensures ∙ c.if-not-is_lawful.false)
+count_at-count-requires c = elapsed_within _ (sym c.is_lawful.ensures ∙ c.if-not-is_lawful.false)
 
 pub overflow_cast-count : goal.overflow_cast-count
 overflow_cast-count c =

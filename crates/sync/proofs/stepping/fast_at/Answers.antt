@@ -3,7 +3,7 @@
 use Prim.Native.Nat.{◌*◌, ◌≤◌}
 use native.Mathlib.Omega.{arith}
 use Rattle.sync.specs.Counting.{frequency}
-use Rattle.sync.proofs.counting.Laws.{count_small, scaled-most, next-come, frequency-above}
+use Rattle.sync.proofs.counting.Laws.{count_small, scaled_most, next_come, frequency_above}
 use Rattle.sync.proofs.stepping.fast_at.Goals as goal
 
 pub overflow_add-next : goal.overflow_add-next
@@ -18,11 +18,11 @@ overflow_mul-result c =
 
 pub overflow_mul-result-2 : goal.overflow_mul-result-2
 overflow_mul-result-2 c =
-    let h : c.args.to * c.frequency_of-f.result ≤ 1008001 * 256 = rw c.frequency_of-f.ensures (scaled-most c.args.board.rc1 c.args.to c.requires.1) in
+    let h : c.args.to * c.frequency_of-f.result ≤ 1008001 * 256 = rw c.frequency_of-f.ensures (scaled_most c.args.board.rc1 c.args.to c.requires.1) in
     omega arith
 
 pub returns : goal.returns
 returns c =
     let b = c.args.board in
     rw (c.if-board.false, c.count_at-next.ensures, c.frequency_of-f.ensures)
-    (next-come (frequency b.rc1) (frequency-above b.rc1) b.elapsed c.args.to c.requires.0)
+    (next_come (frequency b.rc1) (frequency_above b.rc1) b.elapsed c.args.to c.requires.0)

@@ -6,17 +6,17 @@ use native.Mathlib.Omega.{arith}
 use native.Mathlib.Nat.{pow-le-pow_right}
 use lib.Dec.{lit<}
 use borrow.Author.Tests.{le-leb, lt-leb}
-use Rattle.wire.proofs.packets.Laws.{read_none, read_more, read_all, not-decimal}
+use Rattle.wire.proofs.packets.Laws.{read_none, read_more, read_all, not_decimal}
 use Rattle.wire.proofs.packets.number_of.Goals as goal
 
 pub loop-i-init : goal.loop-i-init
 loop-i-init c = read_none _
 
 pub returns-then-b-lt48 : goal.returns-then-b-lt48
-returns-then-b-lt48 c = sym (not-decimal _ _ c.loop-i-test.true (simp (lt-leb _ _ c.if-b-lt48.true)))
+returns-then-b-lt48 c = sym (not_decimal _ _ c.loop-i-test.true (simp (lt-leb _ _ c.if-b-lt48.true)))
 
 pub returns-then-b-gt57 : goal.returns-then-b-gt57
-returns-then-b-gt57 c = sym (not-decimal _ _ c.loop-i-test.true (simp (le-leb _ _ c.if-b-lt48.false, lt-leb _ _ c.if-b-gt57.true)))
+returns-then-b-gt57 c = sym (not_decimal _ _ c.loop-i-test.true (simp (le-leb _ _ c.if-b-lt48.false, lt-leb _ _ c.if-b-gt57.true)))
 
 pub overflow_mul-acc : goal.overflow_mul-acc
 overflow_mul-acc c =

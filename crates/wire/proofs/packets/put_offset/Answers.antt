@@ -6,12 +6,12 @@ use native.Mathlib.Omega.{arith}
 use lib.ListN.{length-set}
 use Rattle.wire.specs.Digits.{digits}
 use Rattle.wire.specs.Packets.{framed, ascii}
-use Rattle.wire.proofs.packets.Laws.{put-short, put-done}
+use Rattle.wire.proofs.packets.Laws.{put_short, put_done}
 use Rattle.wire.proofs.packets.put_offset.Goals as goal
 
 pub returns-then-row-lt11 : goal.returns-then-row-lt11
 unfolding framed ascii digits
-returns-then-row-lt11 c = put-short (framed 0x47 (c.args.sign ∷ ascii (digits 10 7 c.args.n))) _ c.if-row-lt11.true
+returns-then-row-lt11 c = put_short (framed 0x47 (c.args.sign ∷ ascii (digits 10 7 c.args.n))) _ c.if-row-lt11.true
 
 pub bounds-row-1 : goal.bounds-row-1
 bounds-row-1 c = simp length-set (omega arith)
@@ -48,4 +48,4 @@ shape_of-row c = simp length-set
 
 pub returns : goal.returns
 unfolding framed ascii digits
-returns c = rw (div-one c.args.n) (put-done _ _ c.if-row-lt11.false)
+returns c = rw (div-one c.args.n) (put_done _ _ c.if-row-lt11.false)

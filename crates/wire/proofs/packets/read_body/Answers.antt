@@ -3,7 +3,7 @@
 use mathlib.Core.Path.{sym}
 use borrow.Author.Tests.{ne_eqb}
 use Rattle.wire.specs.Packets.{kinds_of}
-use Rattle.wire.proofs.packets.Laws.{body-unknown}
+use Rattle.wire.proofs.packets.Laws.{body_unknown}
 use Rattle.wire.proofs.packets.read_body.Goals as goal
 
 pub returns-in-65 : goal.returns-in-65
@@ -25,5 +25,5 @@ pub returns-in_default : goal.returns-in_default
 unfolding kinds_of
 returns-in_default c =
     sym
-    (body-unknown _ _
+    (body_unknown _ _
     (simp (ne_eqb _ _ c.in_default.in_default-own.rest.1, ne_eqb _ _ c.in_default.in_default-own.rest.0.1, ne_eqb _ _ c.in_default.in_default-own.rest.0.0.1, ne_eqb _ _ c.in_default.in_default-own.rest.0.0.0.1, ne_eqb _ _ c.in_default.in_default-own.rest.0.0.0.0.1)))

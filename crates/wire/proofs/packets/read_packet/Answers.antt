@@ -2,7 +2,7 @@
 -- Assumes nothing.
 use mathlib.Core.Path.{sym}
 use borrow.Author.Tests.{eq-eqb, ne_eqb}
-use Rattle.wire.proofs.packets.Laws.{no_start, found_within, reads-framed, reads-5, reads-6}
+use Rattle.wire.proofs.packets.Laws.{no_start, found_within, reads_framed, reads_5, reads_6}
 use Rattle.wire.proofs.packets.read_packet.Goals as goal
 
 pub returns-then-row-eq0 : goal.returns-then-row-eq0
@@ -17,12 +17,12 @@ read_framed-requires c =
 
 pub returns-then-end-upto : goal.returns-then-end-upto
 returns-then-end-upto c =
-    reads-framed c.args.row.now c.if-row-eq0.false c.if-row-ne1.false _ _ c.looked_at-upto.ensures c.end_of-end.ensures c.if-end-upto.true _ c.read_framed.ensures
+    reads_framed c.args.row.now c.if-row-eq0.false c.if-row-ne1.false _ _ c.looked_at-upto.ensures c.end_of-end.ensures c.if-end-upto.true _ c.read_framed.ensures
 
 pub returns-then-row-ge41 : goal.returns-then-row-ge41
 returns-then-row-ge41 c =
-    reads-5 c.args.row.now c.if-row-eq0.false c.if-row-ne1.false _ _ c.looked_at-upto.ensures c.end_of-end.ensures c.if-end-upto.false c.if-row-ge41.true
+    reads_5 c.args.row.now c.if-row-eq0.false c.if-row-ne1.false _ _ c.looked_at-upto.ensures c.end_of-end.ensures c.if-end-upto.false c.if-row-ge41.true
 
 pub returns : goal.returns
 returns c =
-    reads-6 c.args.row.now c.if-row-eq0.false c.if-row-ne1.false _ _ c.looked_at-upto.ensures c.end_of-end.ensures c.if-end-upto.false c.if-row-ge41.false
+    reads_6 c.args.row.now c.if-row-eq0.false c.if-row-ne1.false _ _ c.looked_at-upto.ensures c.end_of-end.ensures c.if-end-upto.false c.if-row-ge41.false

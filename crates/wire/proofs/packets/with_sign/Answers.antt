@@ -6,11 +6,11 @@ use borrow.Author.Tests.{ne_eqb}
 use Rattle.wire.specs.Packets.{packet_read, read_signed}
 use Rattle.wire.specs.declared.packets.Packet.TheVariants as Packet
 use native.Mathlib.Omega.{arith}
-use Rattle.wire.proofs.packets.Signs.{plain, negated, minus-fits}
+use Rattle.wire.proofs.packets.Signs.{plain, negated, minus_fits}
 use Rattle.wire.proofs.packets.with_sign.Goals as goal
 
 pub overflow_sub-n : goal.overflow_sub-n
-overflow_sub-n c = rw (plain c.args.n (omega (arith, c.requires))) (minus-fits c.args.n (omega (arith, c.requires)))
+overflow_sub-n c = rw (plain c.args.n (omega (arith, c.requires))) (minus_fits c.args.n (omega (arith, c.requires)))
 
 pub returns-in-43 : goal.returns-in-43
 unfolding read_signed

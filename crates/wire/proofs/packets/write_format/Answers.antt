@@ -5,14 +5,14 @@ use mathlib.Core.Path.{refl, sym, ◌∙◌, ap₂}
 use mathlib.Core.List.{[], ◌∷◌}
 use Rattle.wire.specs.declared.packets.Packet.TheVariants as Packet
 use Rattle.wire.specs.Packets.{data_of, framed}
-use Rattle.wire.proofs.packets.Laws.{write-10, write-put}
+use Rattle.wire.proofs.packets.Laws.{write_10, write_put}
 use Rattle.wire.proofs.packets.write_format.Goals as goal
 
 pub returns-then-not-pair_means : goal.returns-then-not-pair_means
-returns-then-not-pair_means c = write-10 (Packet.H _ _) _ refl (sym c.pair_means.ensures ∙ c.if-not-pair_means.true)
+returns-then-not-pair_means c = write_10 (Packet.H _ _) _ refl (sym c.pair_means.ensures ∙ c.if-not-pair_means.true)
 
 pub returns : goal.returns
 unfolding data_of
 returns c =
-    write-put (Packet.H _ _) _ _ (ap₂ (λ (f m : ℕ). framed 0x48 (f ∷ m ∷ [])) c.format_letter.ensures c.modulation_letter.ensures)
+    write_put (Packet.H _ _) _ _ (ap₂ (λ (f m : ℕ). framed 0x48 (f ∷ m ∷ [])) c.format_letter.ensures c.modulation_letter.ensures)
     refl (sym c.pair_means.ensures ∙ c.if-not-pair_means.false) _ _ c.put_two.ensures

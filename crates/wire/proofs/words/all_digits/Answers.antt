@@ -1,18 +1,18 @@
--- `words::all_digits` meets its contract: `decimal-words` has the test of each word, and each return is decided by those that led there.
+-- `words::all_digits` meets its contract: `decimal_words` has the test of each word, and each return is decided by those that led there.
 -- Assumes nothing.
 use mathlib.Core.Path.{sym, ◌∙◌}
 use borrow.Author.Tests.{le-ltb, lt-ltb}
-use Rattle.wire.proofs.words.Laws.{decimal-words}
+use Rattle.wire.proofs.words.Laws.{decimal_words}
 use Rattle.wire.proofs.words.all_digits.Goals as goal
 
 pub returns-then-a-ge10 : goal.returns-then-a-ge10
 returns-then-a-ge10 c =
-    rw (decimal-words _ _ _ _ _ c.ranges.a.fits)
+    rw (decimal_words _ _ _ _ _ c.ranges.a.fits)
     (simp (le-ltb _ _ c.if-a-ge10.true))
 
 pub returns-then-not-four_digits : goal.returns-then-not-four_digits
 returns-then-not-four_digits c =
-    rw (decimal-words _ _ _ _ _ c.ranges.a.fits)
+    rw (decimal_words _ _ _ _ _ c.ranges.a.fits)
     (simp (
       lt-ltb _ _ c.if-a-ge10.false,
       sym c.four_digits.ensures ∙ c.if-not-four_digits.true,
@@ -20,7 +20,7 @@ returns-then-not-four_digits c =
 
 pub returns-then-not-four_digits-2 : goal.returns-then-not-four_digits-2
 returns-then-not-four_digits-2 c =
-    rw (decimal-words _ _ _ _ _ c.ranges.a.fits)
+    rw (decimal_words _ _ _ _ _ c.ranges.a.fits)
     (simp (
       lt-ltb _ _ c.if-a-ge10.false,
       sym c.four_digits.ensures ∙ c.if-not-four_digits.false,
@@ -29,7 +29,7 @@ returns-then-not-four_digits-2 c =
 
 pub returns-then-not-four_digits-3 : goal.returns-then-not-four_digits-3
 returns-then-not-four_digits-3 c =
-    rw (decimal-words _ _ _ _ _ c.ranges.a.fits)
+    rw (decimal_words _ _ _ _ _ c.ranges.a.fits)
     (simp (
       lt-ltb _ _ c.if-a-ge10.false,
       sym c.four_digits.ensures ∙ c.if-not-four_digits.false,
@@ -39,7 +39,7 @@ returns-then-not-four_digits-3 c =
 
 pub returns-then-not-four_digits-4 : goal.returns-then-not-four_digits-4
 returns-then-not-four_digits-4 c =
-    rw (decimal-words _ _ _ _ _ c.ranges.a.fits)
+    rw (decimal_words _ _ _ _ _ c.ranges.a.fits)
     (simp (
       lt-ltb _ _ c.if-a-ge10.false,
       sym c.four_digits.ensures ∙ c.if-not-four_digits.false,
@@ -50,7 +50,7 @@ returns-then-not-four_digits-4 c =
 
 pub returns : goal.returns
 returns c =
-    rw (decimal-words _ _ _ _ _ c.ranges.a.fits)
+    rw (decimal_words _ _ _ _ _ c.ranges.a.fits)
     (simp (
       lt-ltb _ _ c.if-a-ge10.false,
       sym c.four_digits.ensures ∙ c.if-not-four_digits.false,

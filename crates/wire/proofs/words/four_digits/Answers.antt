@@ -2,7 +2,7 @@
 -- Assumes nothing.
 use borrow.Author.Tests.{le-ltb, lt-ltb}
 use native.Mathlib.Nat.{div-one}
-use Rattle.wire.proofs.digits.Laws.{and-true}
+use Rattle.wire.proofs.digits.Laws.{and_true}
 use Rattle.wire.specs.Digits.{digits, below}
 use Rattle.wire.proofs.words.four_digits.Goals as goal
 
@@ -20,4 +20,4 @@ returns-then-w-ge10-3 c = simp (lt-ltb _ _ c.if-w-ge10.false, lt-ltb _ _ c.if-w-
 
 pub returns : goal.returns
 unfolding digits below
-returns c = simp (lt-ltb _ _ c.if-w-ge10.false, lt-ltb _ _ c.if-w-ge10-2.false, lt-ltb _ _ c.if-w-ge10-3.false, div-one, and-true)
+returns c = simp (lt-ltb _ _ c.if-w-ge10.false, lt-ltb _ _ c.if-w-ge10-2.false, lt-ltb _ _ c.if-w-ge10-3.false, div-one, and_true)

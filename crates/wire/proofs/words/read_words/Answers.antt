@@ -3,7 +3,7 @@
 use mathlib.Core.Path.{◌≡◌, sym, ◌∙◌, ap}
 use lib.ListN.{length}
 use Rattle.wire.specs.Words.{read_words}
-use Rattle.wire.proofs.words.Laws.{five-of}
+use Rattle.wire.proofs.words.Laws.{five_of}
 use borrow.Author.Rules.{rules}
 use Rattle.wire.proofs.words.read_words.Goals as goal
 
@@ -11,4 +11,4 @@ pub returns : goal.returns
 returns c =
     let ws = c.args.words in
     let l : length ws ≡ 5 = search rules in
-    c.read_five.ensures ∙ ap read_words (sym (five-of ws l))
+    c.read_five.ensures ∙ ap read_words (sym (five_of ws l))

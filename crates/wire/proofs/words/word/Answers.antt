@@ -5,7 +5,7 @@ use mathlib.Core.List.{List}
 use native.Mathlib.Omega.{arith}
 use lib.ListN.{get_or}
 use Rattle.wire.specs.Digits.{PairTable}
-use Rattle.wire.proofs.words.Laws.{pair_small, word-of-pairs}
+use Rattle.wire.proofs.words.Laws.{pair_small, word_of_pairs}
 use Rattle.wire.proofs.words.word.Goals as goal
 
 -- an entry has eight bits
@@ -30,4 +30,4 @@ overflow_add-result c =
 pub returns : goal.returns
 returns c =
     let p = c.requires in
-    word-of-pairs _ _ _ _ (p.0.rule _ p.1) (p.0.rule _ p.2)
+    word_of_pairs _ _ _ _ (p.0.rule _ p.1) (p.0.rule _ p.2)
