@@ -11,6 +11,8 @@ from collections import defaultdict
 
 WORD = r"[A-Za-z_][\w'\u2080-\u2089-]*"
 SIGNED = re.compile(r"^\s*(?:(?:pub|abbrev|unfoldable|record|data|module)\s+)*(" + WORD + r")(\s*[({].*?)?\s*:\s")
+# fields that would have the name of a definition beside them
+FIELDS = {"crates/irig/": {"of-bytes": "rows_of_bytes"}, "sync/specs/Runs.antt": {"in-time": "pulse_in_time"}, "sync/proofs/Runs.antt": {"in-time": "pulse_in_time"}}
 # before a name that the toolchain makes: a goal, or a step or a field of what is known at a goal
 MADE = re.compile(r"(?<![\w'-])(goal|c|w)(\.[\w'-]+)*\.$")
 IMPORTED = re.compile(r"^\s*use ([\w.'-]+)\.\{([^}]*)\}", re.M)
@@ -54,13 +56,21 @@ def main():
     for path in files(".antt", ".edit"):
         text = read(path)
 
-        def new(m):
-            n = m.group(0)
-            if n not in turned or n in library[path] or MADE.search(text[max(0, m.start() - 80):m.start()]):
+        def new(m, at):
+            n, at = m.group(0), at + m.start()
+            if n not in turned or n in library[path] or MADE.search(text[max(0, at - 80):at]):
                 return n
-            return turned[n]
+            return next((names[n] for names in fields if n in names), turned[n])
 
-        out = re.sub(WORD, new, text)
+        fields = [names for place, names in FIELDS.items() if place in path]
+
+        def line(m):
+            # in a comment only what stands between backticks is a name
+            if m.group(0).lstrip().startswith(("--", "#")):
+                return re.sub(r"`[^`\n]*`", lambda quoted: re.sub(WORD, lambda w: turned.get(w.group(0), w.group(0)), quoted.group(0)), m.group(0))
+            return re.sub(WORD, lambda w: new(w, m.start()), m.group(0))
+
+        out = re.sub(r"[^\n]+", line, text)
         if out != text:
             with open(path, "w", encoding="utf-8") as f:
                 f.write(out)

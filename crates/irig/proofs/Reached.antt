@@ -176,7 +176,7 @@ way_bytes s b = by (eqb s.held 0) s.marked
 -- a record of a hundred bytes, as every one handed in is by its type, is lawful exactly if some calls leave it
 pub lawful_exactly_if : (s : Stream) → length s.elements ≡ 100 → below 256 s.elements ≡ true → lawful s ≡ true ↔ Left s
 lawful_exactly_if s l b = (
-  λ h. record { rows = way s; of_bytes_lem = way_bytes s b; leave = way_leaves s (record { is_lawful = h; places = l }) },
+  λ h. record { rows = way s; rows_of_bytes = way_bytes s b; leave = way_leaves s (record { is_lawful = h; places = l }) },
   λ w. rw (sym w.leave) (keeps_all w.rows fresh_stream fresh_sound).is_lawful,
 )
 

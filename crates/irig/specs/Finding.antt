@@ -86,7 +86,7 @@ of_bytes (row ∷ rows) = below 256 row && of_bytes rows
 -- some calls leave it
 pub record Left (s : Stream) : Type 0 where
   pub rows : List (List ℕ)
-  pub of_bytes_lem : of_bytes rows ≡ true
+  pub rows_of_bytes : of_bytes rows ≡ true
   pub leave : after_all rows fresh_stream ≡ s
 
 -- a marker, if the last was one; or a marker and what is held, the first of which is a marker too

@@ -219,7 +219,7 @@ module _ (b : Board) where
           run_slo = λ n. ap (λ (x : Board). x.slo) (run_is n);
           run_fast = λ n. ap (λ (x : Board). x.fast) (run_is n) ∙ ap (λ (t : Bool). d.fast || t) (counted_at n);
           pulse_err = ap (λ (x : Board). x.err) (step_done d a.known true) ∙ ap (λ (t : Bool). d.err || t) (errs_next true);
-          in_time_lem = in_time_next;
+          pulse_in_time = in_time_next;
           pulse_bit = (at_pulse d a.known).bit ∙ or-false (not (in_time d)) ∙ ap not in_time_next;
         }
 

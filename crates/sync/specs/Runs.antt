@@ -79,7 +79,7 @@ pub record Since (b : Board) (j : ℕ) (d : Board) : Type 0 where
   pub run_fast : (n : ℕ) → (after (Call.run n) d).fast ≡ (d.fast || ltb (count (frequency b.rc1) j) (count (frequency b.rc1) (j + n)))
   -- a pulse on the next microsecond raises ERR if it is early, or on the 1,008,001st; and the bit is clear afterwards exactly if the pulse is in time
   pub pulse_err : (after (Call.step true) d).err ≡ (d.err || (ltb (j + 1) 992000 || eqb (j + 1) 1008001))
-  pub in_time_lem : in_time d ≡ (leb 992000 (j + 1) && leb (j + 1) 1008000)
+  pub pulse_in_time : in_time d ≡ (leb 992000 (j + 1) && leb (j + 1) 1008000)
   pub pulse_bit : (after (Call.step true) d).bit ≡ not (leb 992000 (j + 1) && leb (j + 1) 1008000)
 
 -- what a pulse leaves of a board: its switches, SLO and FAST waiting, and a new gap

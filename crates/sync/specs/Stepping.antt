@@ -31,7 +31,7 @@ counts b = b.seen && count_falls (frequency b.rc1) (reached b)
 
 -- A STEP
 
--- each pulse restarts the count, a step due then falling away, and raises SLO; an error raises ERR and sets the bit; an in_time_lem pulse clears the bit; each count step and
+-- each pulse restarts the count, a step due then falling away, and raises SLO; an error raises ERR and sets the bit; an in-time pulse clears the bit; each count step and
 -- each pulse raises FAST
 unfoldable pub stepped : Board → Bool → Board
 stepped b pulse =
