@@ -33,6 +33,7 @@ fn first_n1(wanted: u64) -> u32
 }
 
 // The nearest n2 beside an n1: the wanted period over 100 × n1, rounded, a half down, and held at 2 and at 65,535.
+#[tactic(auto, using(crate::proofs::nearest::Rows::held_low, crate::proofs::nearest::Rows::held_high, crate::proofs::nearest::Rows::not_held))]
 fn n2_for(wanted: u64, n1: u32) -> u32
     requires { (wanted ≤ 429483622500) × ((2 ≤ n1) × (n1 ≤ 65535)) }
     ensures { result ≡ (with_n1 wanted n1).n2 }

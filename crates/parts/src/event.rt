@@ -92,6 +92,7 @@ pub fn open_latch(event: Event) -> Event
 }
 
 // Whether an edge matches: capture is on, and the edge is of the chosen kind.
+#[tactic(auto, unfolding(crate::specs::Events::matching))]
 pub fn is_matching(control: u8, falling: bool) -> bool
     ensures { result ≡ matching control falling }
 {
