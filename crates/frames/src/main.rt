@@ -94,7 +94,7 @@ fn take_part(rt: &impl Print, kept: Kept, part: &[u8], row: &mut [u8]) -> io::Re
     })
 }
 
-// Reads once, and takes what came. A read that gives nothing is the end.
+// Reads once, and takes what came. A read that fails or gives nothing is the end.
 fn take_some(
     rt: &impl Print,
     reader: &mut impl Read,
@@ -104,7 +104,10 @@ fn take_some(
 ) -> io::Result<Kept>
     requires { 84 ≤ length row.old }
 {
-    let n = reader.read(input)?;
+    let n = match reader.read(input) {
+        Ok(n) => n,
+        Err(_) => 0,
+    };
     if n == 0 {
         let stream = kept.stream;
         return Ok(Kept {
@@ -135,7 +138,7 @@ fn run(rt: &impl Print, reader: &mut impl Read, input: &mut [u8], row: &mut [u8]
     Ok(())
 }
 
-// A read or a write that fails is the end.
+// A write that fails is the end.
 fn main(rt: HostRuntime) -> io::Result<()> {
     let mut input = [0u8; 65536];
     let mut row = [0u8; 65536];

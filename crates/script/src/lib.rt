@@ -52,9 +52,12 @@ fn run_lines(rt: &impl Print, lines: &[u8]) -> io::Result<()> {
     Ok(())
 }
 
-// All lines of standard input, which one reading takes: 65536 bytes at most. A read or a write that fails is the end.
+// All lines of standard input, which one reading takes: 65536 bytes at most. A read that fails gives nothing; a write that fails is the end.
 pub fn run(rt: &(impl Input + Print)) -> io::Result<()> {
     let mut lines = [0u8; 65536];
-    let n = rt.reader().read(&mut lines)?;
+    let n = match rt.reader().read(&mut lines) {
+        Ok(n) => n,
+        Err(_) => 0,
+    };
     run_lines(rt, &lines[..n])
 }

@@ -48,7 +48,7 @@ fn feed_part(rt: &impl Print, bench: Bench, part: &[u8], row: &mut [u8]) -> io::
     })
 }
 
-// Reads once, and feeds what came. A read that gives nothing is the end.
+// Reads once, and feeds what came. A read that fails or gives nothing is the end.
 fn feed_some(
     rt: &impl Print,
     reader: &mut impl Read,
@@ -56,7 +56,10 @@ fn feed_some(
     input: &mut [u8],
     row: &mut [u8],
 ) -> io::Result<Kept> {
-    let n = reader.read(input)?;
+    let n = match reader.read(input) {
+        Ok(n) => n,
+        Err(_) => 0,
+    };
     if n == 0 {
         return Ok(Kept {
             bench: bench,
@@ -88,7 +91,7 @@ fn run(
     write_front(rt, row, n)
 }
 
-// The bench program: the header, and then the lines. A read or a write that fails is the end.
+// The bench program: the header, and then the lines. A write that fails is the end.
 pub fn bench(rt: &(impl Input + Print)) -> io::Result<()> {
     rt.write_all(b"PKT ANS\n")?;
     let mut input = [0u8; 65536];

@@ -79,9 +79,12 @@ fn put_years(rt: &impl Print, digits: &[u8]) -> io::Result<()> {
     Ok(())
 }
 
-// One reading takes all of it. A read or a write that fails is the end.
+// One reading takes all of it. A read that fails gives nothing; a write that fails is the end.
 fn main(rt: HostRuntime) -> io::Result<()> {
     let mut digits = [0u8; 65536];
-    let n = rt.reader().read(&mut digits)?;
+    let n = match rt.reader().read(&mut digits) {
+        Ok(n) => n,
+        Err(_) => 0,
+    };
     put_years(&rt, &digits[..n])
 }
