@@ -3,7 +3,7 @@
 
 usage: python3 tools/names.py    at the top of the repository, once, after the toolchain's port.py
 
-Names of functions, strings, inputs and outputs stay as they are. It prints each name that it turned, and names that would fall together.
+Names of functions, strings, inputs and outputs stay as they are. It prints each name that it turned.
 """
 import os
 import re
