@@ -3,12 +3,14 @@ use Prim.Native.Nat.{ℕ, ◌≤◌}
 use mathlib.Core.Path.{◌≡◌, refl, sym, ap, ◌∙◌}
 use mathlib.Core.Bool.{Bool, true, false, ◌&&◌}
 use mathlib.Core.List.{List, [], ◌∷◌}
-use mathlib.Core.Logic.{◌⊎◌, inl, inr}
+use mathlib.Core.Logic.{◌⊎◌, inl, inr, ⊎_elim}
+use native.Mathlib.Omega.{arith}
 use lib.Dec.{eqb}
 use borrow.Author.Tests.{eq-eqb, ne_eqb, eqb-true, eqb-false}
 use Rattle.wire.specs.Digits.{pick}
-use Rattle.wire.specs.Numbers.{◌if◌, absent}
+use Rattle.wire.specs.Numbers.{◌if◌, absent, answered, number_of}
 use Rattle.wire.specs.Packets.{packet_lines, packet_refusal, packet_in, needs_jam_off, read_packet, number_read, jam_off_read}
+use Rattle.wire.proofs.numbers.Names.{answered_number}
 use Rattle.wire.proofs.numbers.Laws.{given_append, absent_append}
 use Rattle.wire.proofs.packets.Read.{refusal_given, number_read_lem, jam_off_read_lem, packet_numbered, packet_number}
 use Rattle.card.specs.Packets.{ack_lines, ack_refusal}
@@ -73,3 +75,14 @@ module _ (jam : Bool) (row : List ℕ) where
       go (refused z) h = inl (packet_number row z)
       go jammed h = inr refl
       go (taken z u) h = absurd (h refl)
+
+  -- so each of them has a name, and the number of what ACK comes to is the number that its table gives
+  ack_named : ack_refusal jam row ≤ 25
+  ack_named = go (eqb (ack_refusal jam row) 0) refl
+    where
+      go : (t : Bool) → eqb (ack_refusal jam row) 0 ≡ t → ack_refusal jam row ≤ 25
+      go true e = let z = eqb-true (ack_refusal jam row) 0 e in omega (arith, z)
+      go false e = ⊎_elim (λ q. omega (arith, q)) (λ q. omega (arith, q)) (ack_numbers (eqb-false (ack_refusal jam row) 0 e))
+
+  pub ack_told : {A : Type 0} (a : A) → number_of (answered (ack_refusal jam row) a) ≡ ack_refusal jam row
+  ack_told a = answered_number (ack_refusal jam row) a ack_named

@@ -1,7 +1,7 @@
 -- A block into the queue: the bytes of a row written to FIFO one after another, by one call.
 use Rattle.std.specs.Prelude.{ℕ, ◌+◌, ◌-◌, min, Bool, not, List, [], ◌∷◌, ◌++◌, ltb, eqb, length, replicate}
 use Rattle.wire.specs.Digits.{pick}
-use Rattle.wire.specs.Numbers.{Line, ◌if◌}
+use Rattle.wire.specs.Numbers.{Line, ◌if◌, answered, number_of}
 use Rattle.parts.specs.declared.queue.Queue.{Queue}
 use Rattle.parts.specs.Queues.{queued}
 use Rattle.card.specs.declared.card.Card.{Card}
@@ -10,18 +10,18 @@ use Rattle.card.specs.Lawful.{lawful}
 use Rattle.card.specs.Registers.{write_register}
 
 abbrev pub block_answer : Card → ℕ → ℕ → BlockAnswer
-block_answer c n taken = record { card = c; number = n; taken = taken }
+block_answer c n taken = record { card = c; taken = taken; outcome = answered n tt }
 
 -- the same, where n bytes were taken before
 abbrev pub behind : ℕ → BlockAnswer → BlockAnswer
-behind n r = block_answer r.card r.number (n + r.taken)
+behind n r = record { card = r.card; taken = n + r.taken; outcome = r.outcome }
 
 -- bytes written to register 13 one after another, up to and including the first refusal
 unfoldable pub one_by_one : Card → List ℕ → BlockAnswer
 one_by_one c [] = block_answer c 0 0
 one_by_one c (b ∷ bs) =
-    pick (eqb (write_register c 13 b).number 0) (behind 1 (one_by_one (write_register c 13 b).card bs))
-    (block_answer (write_register c 13 b).card (write_register c 13 b).number 0)
+    pick (eqb (number_of (write_register c 13 b).outcome) 0) (behind 1 (one_by_one (write_register c 13 b).after bs))
+    (block_answer (write_register c 13 b).after (number_of (write_register c 13 b).outcome) 0)
 
 -- the same of a lawful card; 18 comes first, beside an empty row too
 unfoldable pub write_block : Card → List ℕ → BlockAnswer

@@ -1,15 +1,14 @@
 -- The card with one part changed. There is no update of a record in this language, so each part has its definition here, which writes out that the others stay;
 -- clock and interrupt registers have the same for their own fields, the other parts write out what a call makes of them, and a reset card is written out whole in `Reset`.
-use Rattle.std.specs.Prelude.{ℕ, Bool, List, eqb}
-use Rattle.wire.specs.Digits.{pick}
-use Rattle.wire.specs.Numbers.{Line, given}
+use Rattle.std.specs.Prelude.{ℕ, Bool, List, ⊤}
+use Rattle.wire.specs.Numbers.{answered}
+use Rattle.wire.specs.declared.numbers.Answer.{Answer}
 use Rattle.clock.specs.declared.clock.Clock.{Clock}
 use Rattle.parts.specs.declared.queue.Queue.{Queue}
 use Rattle.parts.specs.declared.event.Event.{Event}
 use Rattle.parts.specs.declared.settings.Settings.{Settings}
 use Rattle.parts.specs.declared.interrupts.Interrupts.{Interrupts}
 use Rattle.card.specs.declared.card.Card.{Card}
-use Rattle.card.specs.declared.card.Answer.{Answer}
 
 abbrev pub with_queue : Card → Queue → Card
 with_queue c v = record { queue = v; clock = c.clock; time_latch = c.time_latch; event = c.event; settings = c.settings; jam = c.jam; interrupts = c.interrupts; done = c.done }
@@ -37,9 +36,6 @@ with_done c v = record { queue = c.queue; clock = c.clock; time_latch = c.time_l
 
 -- ANSWERS
 
-abbrev pub answer : Card → ℕ → Answer
-answer c n = record { card = c; number = n }
-
--- what a call with these lines answers: the changed card if none of them holds, else the card as it was and the number
-unfoldable pub granted : List Line → Card → Card → Answer
-granted ls c changed = answer (pick (eqb (given ls) 0) changed c) (given ls)
+-- the card afterwards, and by which number the call was done or refused
+abbrev pub answer : Card → ℕ → Answer Card ⊤
+answer c n = record { after = c; outcome = answered n tt }

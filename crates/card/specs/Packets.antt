@@ -1,14 +1,14 @@
 -- Packets: the queue read as one packet.
-use Rattle.std.specs.Prelude.{ℕ, Bool, false, ◌&&◌, List, [], ◌∷◌, ◌++◌, eqb}
+use Rattle.std.specs.Prelude.{ℕ, Bool, false, ◌&&◌, List, [], ◌∷◌, ◌++◌, ⊤, eqb}
 use Rattle.wire.specs.Digits.{pick}
 use Rattle.wire.specs.Numbers.{Line, ◌if◌, given}
+use Rattle.wire.specs.declared.numbers.Answer.{Answer}
 use Rattle.wire.specs.Packets.{packet_lines, packet_in, needs_jam_off}
 use Rattle.parts.specs.declared.settings.Settings.{Settings}
 use Rattle.parts.specs.Pending.{bit}
 use Rattle.parts.specs.Queues.{empty_queue, queued}
 use Rattle.parts.specs.Settings.{applied}
 use Rattle.card.specs.declared.card.Card.{Card}
-use Rattle.card.specs.declared.card.Answer.{Answer}
 use Rattle.card.specs.Cards.{answer, with_done, with_queue, with_settings}
 
 -- the refusals of ACK, as one table, of the jam and of the bytes in the queue: 4 to 10, and 25 for a packet that needs the jam off while it is on
@@ -35,5 +35,5 @@ abbrev pub done_cleared : ℕ → Card → Card
 done_cleared v c = pick (bit 1 v) (with_done c false) c
 
 -- writing ACK: bit 0 clears the done bit; bit 7 then has the queue read as one packet
-unfoldable pub acknowledged : Card → ℕ → Answer
+unfoldable pub acknowledged : Card → ℕ → Answer Card ⊤
 acknowledged c v = pick (bit 128 v) (answer (taken (done_cleared v c)) (ack_number c)) (answer (done_cleared v c) 0)

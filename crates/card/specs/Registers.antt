@@ -1,26 +1,23 @@
 -- Registers, input edges and the interrupt line.
-use Rattle.std.specs.Prelude.{ℕ, ◌-◌, ◌%◌, Bool, true, false, ◌&&◌, not, List, [], ◌∷◌, get_or, leb, ltb, eqb}
+use Rattle.std.specs.Prelude.{ℕ, ◌-◌, ◌%◌, Bool, true, false, ◌&&◌, not, List, [], ◌∷◌, Option, Some, None, Result, ⊤, get_or, leb, ltb, eqb}
 use Rattle.wire.specs.Digits.{pick}
-use Rattle.wire.specs.Numbers.{Line, ◌if◌, given}
+use Rattle.wire.specs.Numbers.{Line, ◌if◌, given, given_or, answered, granted}
+use Rattle.wire.specs.declared.numbers.Answer.{Answer}
+use Rattle.wire.specs.declared.numbers.Refusal.{Refusal}
 use Rattle.wire.specs.Words.{words_of}
 use Rattle.clock.specs.declared.time.Time.{Time}
 use Rattle.parts.specs.Events.{control_written, opened, matching, edge_taken}
 use Rattle.parts.specs.Interrupts.{interrupts_written, event_raised, line_up}
 use Rattle.parts.specs.Queues.{enqueued}
 use Rattle.card.specs.declared.card.Card.{Card}
-use Rattle.card.specs.declared.card.Answer.{Answer}
-use Rattle.card.specs.declared.registers.Value.{Value}
-use Rattle.card.specs.declared.registers.InterruptLine.{InterruptLine}
-use Rattle.card.specs.Cards.{answer, granted, with_time_latch, with_event, with_interrupts, with_queue}
+use Rattle.card.specs.declared.registers.Request.{Request}
+use Rattle.card.specs.Cards.{answer, with_time_latch, with_event, with_interrupts, with_queue}
 use Rattle.card.specs.Lawful.{lawful}
 use Rattle.card.specs.Packets.{acknowledged}
 
 -- the last register's number
 abbrev pub last_register : ℕ
 last_register = 18
-
-abbrev pub value : Card → ℕ → ℕ → Value
-value c n v = record { card = c; number = n; value = v }
 
 -- the words of a time, and of the card's
 abbrev pub words_at : Time → List ℕ
@@ -57,9 +54,12 @@ shown c reg =
     c.event.missed))))))))
 
 -- reading TIMEREQ latches the time; no other reading changes anything
-unfoldable pub read_register : Card → ℕ → Value
-read_register c reg =
-    pick (eqb (read_refusal (lawful c) reg) 0) (value (pick (eqb reg 0) (with_time_latch c (words_now c)) c) 0 (shown c reg)) (value c (read_refusal (lawful c) reg) 0)
+unfoldable pub read_register : Card → ℕ → Answer Card ℕ
+read_register c reg = granted (read_lines (lawful c) reg) c (pick (eqb reg 0) (with_time_latch c (words_now c)) c) (shown c reg)
+
+-- the value that a reading gives, 0 beside a refusal
+abbrev pub value_read : Result ℕ Refusal → ℕ
+value_read = given_or 0
 
 -- WRITING
 
@@ -76,7 +76,7 @@ unfoldable pub write_refusal : Bool → ℕ → ℕ → ℕ
 write_refusal known reg fill = given (write_lines known reg fill)
 
 -- what a register does with a value; bits not named are ignored
-unfoldable pub written : Card → ℕ → ℕ → Answer
+unfoldable pub written : Card → ℕ → ℕ → Answer Card ⊤
 written c reg v =
     pick (eqb reg 0) (answer (with_time_latch c (words_now c)) 0)
     (pick (eqb reg 11) (answer (with_event c (control_written c.event v)) 0)
@@ -85,7 +85,7 @@ written c reg v =
     (pick (eqb reg 18) (answer (with_event c (opened c.event)) 0)
     (answer (with_interrupts c (interrupts_written c.interrupts reg v)) 0)))))
 
-unfoldable pub write_register : Card → ℕ → ℕ → Answer
+unfoldable pub write_register : Card → ℕ → ℕ → Answer Card ⊤
 write_register c reg v =
     pick (eqb (write_refusal (lawful c) reg c.queue.fill) 0) (written c reg v) (answer c (write_refusal (lawful c) reg c.queue.fill))
 
@@ -96,19 +96,30 @@ abbrev pub matched : Card → Card
 matched c = with_interrupts (with_event c (edge_taken c.event (words_now c))) (event_raised c.interrupts)
 
 -- any other edge changes nothing
-unfoldable pub edge : Card → Bool → Answer
-edge c falling = granted (18 if not (lawful c) ∷ []) c (pick (matching c.event.control falling) (matched c) c)
+unfoldable pub edge : Card → Bool → Answer Card ⊤
+edge c falling = granted (18 if not (lawful c) ∷ []) c (pick (matching c.event.control falling) (matched c) c) tt
 
 -- THE LINE
 
-abbrev pub interrupt_line : ℕ → Bool → ℕ → ℕ → InterruptLine
-interrupt_line n up level vector = record { number = n; up = up; level = level; vector = vector }
+abbrev pub request : ℕ → ℕ → Request
+request level vector = record { level = level; vector = vector }
 
 unfoldable pub line_refusal : Card → ℕ
 line_refusal c = given (18 if not (lawful c) ∷ [])
 
--- up exactly if LEVEL is not 0 and some pending bit is also set in MASK; LEVEL 1 to 7 is IRQ1 to IRQ7; a line that is down has no level and no vector
-unfoldable pub line : Card → InterruptLine
-line c =
-    pick (lawful c && line_up c.interrupts) (interrupt_line 0 true c.interrupts.level c.interrupts.vector)
-    (interrupt_line (line_refusal c) false 0 0)
+-- up exactly if LEVEL is not 0 and some pending bit is also set in MASK; LEVEL 1 to 7 is IRQ1 to IRQ7; a line that is down requests nothing
+unfoldable pub line : Card → Result (Option Request) Refusal
+line c = answered (line_refusal c) (pick (line_up c.interrupts) (Some (request c.interrupts.level c.interrupts.vector)) None)
+
+-- what a line requests, nothing where it is down and nothing beside a refusal
+abbrev pub told : Result (Option Request) Refusal → Option Request
+told = given_or None
+
+-- and what then stands in its place: whether the line is up, and its level and vector, both 0 where it is not
+abbrev pub up : Option Request → Bool
+up (Some r) = true
+up None = false
+
+abbrev pub requested : Option Request → Request
+requested (Some r) = r
+requested None = request 0 0

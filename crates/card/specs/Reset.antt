@@ -1,6 +1,7 @@
 -- Reset, and a fresh card.
-use Rattle.std.specs.Prelude.{true, false, not, [], ◌∷◌, pos}
-use Rattle.wire.specs.Numbers.{◌if◌}
+use Rattle.std.specs.Prelude.{true, false, not, [], ◌∷◌, pos, ⊤}
+use Rattle.wire.specs.Numbers.{◌if◌, granted}
+use Rattle.wire.specs.declared.numbers.Answer.{Answer}
 use Rattle.wire.specs.Words.{zero_words}
 use Rattle.wire.specs.declared.packets.Format.TheVariants as Format
 use Rattle.wire.specs.declared.packets.Modulation.TheVariants as Modulation
@@ -12,8 +13,6 @@ use Rattle.clock.specs.declared.clock.Periodic.TheVariants as Periodic
 use Rattle.clock.specs.Time.{instant}
 use Rattle.parts.specs.declared.settings.Settings.{Settings}
 use Rattle.card.specs.declared.card.Card.{Card}
-use Rattle.card.specs.declared.card.Answer.{Answer}
-use Rattle.card.specs.Cards.{granted}
 use Rattle.parts.specs.Events.{clear_event}
 use Rattle.parts.specs.Queues.{empty_queue}
 use Rattle.card.specs.Lawful.{lawful}
@@ -33,8 +32,8 @@ reset_card t s =
     }
 
 -- time and year stay; mode, format, modulation and generator code stay
-unfoldable pub reset : Card → Answer
-reset c = granted (18 if not (lawful c) ∷ []) c (reset_card c.clock.time c.settings)
+unfoldable pub reset : Card → Answer Card ⊤
+reset c = granted (18 if not (lawful c) ∷ []) c (reset_card c.clock.time c.settings) tt
 
 -- a reset card with year 1, day 1, tick 0, mode 0, format B, modulation M, generator B
 unfoldable pub fresh_card : Card

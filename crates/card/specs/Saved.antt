@@ -1,13 +1,13 @@
 -- Saved settings of a card.
-use Rattle.std.specs.Prelude.{ℕ, not, List, [], ◌∷◌, ◌++◌, length, drop, ltb, eqb}
+use Rattle.std.specs.Prelude.{ℕ, not, List, [], ◌∷◌, ◌++◌, length, drop, ltb, eqb, ⊤}
 use Rattle.wire.specs.Digits.{pick, unpacked}
-use Rattle.wire.specs.Numbers.{Line, ◌if◌, given}
+use Rattle.wire.specs.Numbers.{Line, ◌if◌, given, granted}
+use Rattle.wire.specs.declared.numbers.Answer.{Answer}
 use Rattle.parts.specs.Saved.{saved_form, saved_lines, settings_in}
 use Rattle.parts.specs.Settings.{jam_fits}
 use Rattle.parts.specs.declared.settings.Settings.{Settings}
 use Rattle.card.specs.declared.card.Card.{Card}
-use Rattle.card.specs.declared.card.Answer.{Answer}
-use Rattle.card.specs.Cards.{granted, with_settings}
+use Rattle.card.specs.Cards.{with_settings}
 use Rattle.card.specs.Lawful.{lawful}
 
 -- 18, and 14 last
@@ -26,11 +26,11 @@ abbrev pub load_lines : Card → List ℕ → List Line
 load_lines c bytes = 18 if not (lawful c) ∷ (saved_lines bytes ++ (25 if not (jam_fits c.jam (settings_in (unpacked 2 8 bytes))) ∷ []))
 
 -- loading changes these settings only
-unfoldable pub load : Card → List ℕ → Answer
-load c bytes = granted (load_lines c bytes) c (with_settings c (settings_in (unpacked 2 8 bytes)))
+unfoldable pub load : Card → List ℕ → Answer Card ⊤
+load c bytes = granted (load_lines c bytes) c (with_settings c (settings_in (unpacked 2 8 bytes))) tt
 
 -- WITHIN THE CRATE
 
 -- the card with other settings, or 25
-abbrev pub settings_kept : Card → Settings → Answer
-settings_kept c s = granted (25 if not (jam_fits c.jam s) ∷ []) c (with_settings c s)
+abbrev pub settings_kept : Card → Settings → Answer Card ⊤
+settings_kept c s = granted (25 if not (jam_fits c.jam s) ∷ []) c (with_settings c s) tt

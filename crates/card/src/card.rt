@@ -17,10 +17,3 @@ pub struct Card {
     pub clock: Clock,
     pub queue: Queue,
 }
-
-// What a call that changes the card answers: the card afterwards, and the number.
-#[derive(Clone, Copy)]
-pub struct Answer {
-    pub card: Card,
-    pub number: u8,
-}

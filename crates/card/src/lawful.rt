@@ -11,39 +11,22 @@ use parts::queue::queue_fits;
 use parts::settings::{jam_fits, settings_fit};
 
 // What is not the clock's: the clock answers for its own ranges.
+#[tactic(auto, using(crate::proofs::lawful::Laws::rest_parts))]
 pub(crate) fn rest_fits(card: Card) -> bool
     ensures { result ≡ rest_lawful card }
 {
-    let interrupts = card.interrupts;
-    if !interrupts_fit(interrupts) {
-        return false;
-    }
-    if !control_fits(card.event.control, card.event.closed) {
-        return false;
-    }
-    let settings = card.settings;
-    if !settings_fit(settings) {
-        return false;
-    }
-    if !jam_fits(card.jam, settings) {
-        return false;
-    }
-    let time_latch = card.time_latch;
-    let event_latch = card.event.latch;
-    if !latches_fit(time_latch, event_latch) {
-        return false;
-    }
-    let queue = card.queue;
-    queue_fits(queue)
+    interrupts_fit(card.interrupts)
+        && control_fits(card.event.control, card.event.closed)
+        && settings_fit(card.settings)
+        && jam_fits(card.jam, card.settings)
+        && latches_fit(card.time_latch, card.event.latch)
+        && queue_fits(card.queue)
 }
 
 // Whether any call takes this card. Asked first in each of them.
+#[tactic(auto, using(crate::proofs::lawful::Laws::clock_first))]
 pub fn is_lawful(card: Card) -> bool
     ensures { result ≡ lawful card }
 {
-    let clock = card.clock;
-    if !clock_fits(clock) {
-        return false;
-    }
-    rest_fits(card)
+    clock_fits(card.clock) && rest_fits(card)
 }

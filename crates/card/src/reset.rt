@@ -2,7 +2,7 @@
 ghost use Rattle.std.specs.Prelude.{◌≡◌};
 ghost use Rattle.card.specs.Reset.{reset_card, reset, fresh_card};
 
-use crate::card::{Answer, Card};
+use crate::card::Card;
 use crate::lawful::is_lawful;
 use clock::clock::{Clock, Periodic, Strobe};
 use clock::time::Time;
@@ -10,7 +10,7 @@ use parts::event::Event;
 use parts::interrupts::Interrupts;
 use parts::queue::empty_queue;
 use parts::settings::Settings;
-use wire::numbers;
+use wire::numbers::{Answer, Refusal};
 use wire::packets::{ClockSource, Format, Generator, Modulation};
 use wire::time::Ticks;
 
@@ -18,32 +18,24 @@ use wire::time::Ticks;
 fn reset_card(time: Time, settings: Settings) -> Card
     ensures { result ≡ reset_card time settings }
 {
-    let mode = settings.mode;
-    let format = settings.format;
-    let modulation = settings.modulation;
-    let generator = settings.generator;
-    let queue = empty_queue();
     Card {
-        queue: queue,
+        queue: empty_queue(),
         clock: Clock {
-            time: time,
+            time,
             strobe: Strobe::Off,
             periodic: Periodic::Off,
         },
-        time_latch: [0, 0, 0, 0, 0],
+        time_latch: [0; 5],
         event: Event {
             control: 0,
             closed: false,
             missed: 0,
-            latch: [0, 0, 0, 0, 0],
+            latch: [0; 5],
         },
         settings: Settings {
-            mode: mode,
-            format: format,
-            modulation: modulation,
             clock: ClockSource::Internal,
-            generator: generator,
             offset: 0,
+            ..settings
         },
         jam: true,
         interrupts: Interrupts {
@@ -57,25 +49,18 @@ fn reset_card(time: Time, settings: Settings) -> Card
 }
 
 // Resets a card: time, year, mode, format, modulation and generator code stay.
-pub fn reset(card: Card) -> Answer
+#[tactic(auto, using(wire::proofs::numbers::Names::names), unfolding(crate::specs::Reset::reset))]
+pub fn reset(card: Card) -> Answer<Card, ()>
     ensures { result ≡ reset card }
 {
     if !is_lawful(card) {
-        return Answer {
-            card: card,
-            number: numbers::UNLAWFUL,
-        };
+        return Answer::refused(card, Refusal::Unlawful);
     }
-    let time = card.clock.time;
-    let settings = card.settings;
-    let c = reset_card(time, settings);
-    Answer {
-        card: c,
-        number: numbers::DONE,
-    }
+    Answer::done(reset_card(card.clock.time, card.settings), ())
 }
 
 // A reset card with year 1, day 1, tick 0, mode 0, format B, modulation M, generator B.
+#[tactic(auto, unfolding(crate::specs::Reset::fresh_card))]
 pub fn fresh_card() -> Card
     ensures { result ≡ fresh_card }
 {

@@ -5,8 +5,7 @@
 
 pub mod writing;
 
-ghost use Rattle.std.specs.Prelude.{◌≡◌, ◌+◌, ◌-◌, ◌*◌, ◌%◌, ◌&&◌, eqb};
-ghost use Rattle.wire.specs.Digits.{pick};
+ghost use Rattle.std.specs.Prelude.{◌≡◌, ℕ, ◌+◌, ◌*◌, ◌%◌, eqb};
 ghost use Rattle.cases.specs.Numbers.{with_digit, number_at};
 
 use wire::time::Ticks;
@@ -15,83 +14,86 @@ use wire::time::Ticks;
 fn with_digit(n: u64, b: u8) -> u64
     ensures { result ≡ with_digit n b }
 {
-    n % 1_000_000_000_000 * 10 + ((b % 16) as u64)
-}
-
-// Whether a byte ends the number looked for, with so many spaces to come before it.
-fn is_end(left: usize, b: u8) -> bool
-    ensures { result ≡ (eqb left 0 && eqb b 32) }
-{
-    if left == 0 {
-        return b == 32;
-    }
-    false
-}
-
-// The number with a byte that belongs to it; any other leaves it.
-fn number_on(n: u64, left: usize, b: u8) -> u64
-    ensures { result ≡ pick (eqb left 0) (with_digit n b) n }
-{
-    if left == 0 {
-        return with_digit(n, b);
-    }
-    n
-}
-
-// The spaces to come after a byte that is not the number's end.
-fn left_on(left: usize, b: u8) -> usize
-    ensures { result ≡ pick (eqb b 32) (left - 1) left }
-{
-    if b == 32 {
-        if left != 0 {
-            return left - 1;
-        }
-    }
-    left
+    n % 1_000_000_000_000 * 10 + u64::from(b % 16)
 }
 
 // The number behind so many spaces; 0 where there is none.
+#[tactic(auto, using(crate::proofs::Laws::found_here, crate::proofs::Laws::found_in, crate::proofs::Laws::found_past, crate::proofs::Laws::found_by, crate::proofs::Laws::found_all_lem))]
 pub fn number_at(text: &[u8], place: usize) -> u64
     ensures { result ≡ number_at place text.now }
 {
     let mut left = place;
     let mut n: u64 = 0;
-    let mut i: usize = 0;
-    while i < text.len() {
-        let b = text[i];
-        if is_end(left, b) {
-            return n;
+    for &b in text {
+        match b {
+            b' ' if left == 0 => return n,
+            b' ' => left -= 1,
+            _ if left == 0 => n = with_digit(n, b),
+            _ => {}
         }
-        n = number_on(n, left, b);
-        left = left_on(left, b);
-        i += 1;
     }
     n
 }
 
-pub fn byte_at(text: &[u8], place: usize) -> u8
-    ensures { result ≡ number_at place text.now % 256 }
-{
-    (number_at(text, place) % 256) as u8
+// A type of whole numbers that holds so many, and the one of them that a number of 64 bits ends in.
+pub trait Low {
+    ghost size: { ℕ };
+
+    ghost value: { Self → ℕ };
+
+    fn low(n: u64) -> Self
+        ensures { value result ≡ n % size };
 }
 
-pub fn short_at(text: &[u8], place: usize) -> u16
-    ensures { result ≡ number_at place text.now % 65536 }
-{
-    (number_at(text, place) % 65_536) as u16
+impl Low for u8 {
+    ghost size = { 256 };
+
+    ghost value = { λ n. n };
+
+    fn low(n: u64) -> u8 {
+        (n % 256) as u8
+    }
 }
 
-pub fn long_at(text: &[u8], place: usize) -> u32
-    ensures { result ≡ number_at place text.now % 4294967296 }
+impl Low for u16 {
+    ghost size = { 65536 };
+
+    ghost value = { λ n. n };
+
+    fn low(n: u64) -> u16 {
+        (n % 65_536) as u16
+    }
+}
+
+impl Low for u32 {
+    ghost size = { 4294967296 };
+
+    ghost value = { λ n. n };
+
+    fn low(n: u64) -> u32 {
+        (n % 4_294_967_296) as u32
+    }
+}
+
+// The same, as far as a type holds it.
+pub fn at<N: Low>(text: &[u8], place: usize) -> N
+    ensures { N.value result ≡ number_at place text.now % N.size }
 {
-    (number_at(text, place) % 4_294_967_296) as u32
+    N::low(number_at(text, place))
+}
+
+// 1 for true.
+pub fn flag_at(text: &[u8], place: usize) -> bool
+    ensures { result ≡ eqb (number_at place text.now % 256) 1 }
+{
+    at::<u8>(text, place) == 1
 }
 
 // A 64-bit number from its halves, each at a place of its own: a script's numbers are shorter.
 pub fn wide_at(text: &[u8], high: usize, low: usize) -> u64
     ensures { result ≡ number_at high text.now % 4294967296 * 4294967296 + number_at low text.now % 4294967296 }
 {
-    (long_at(text, high) as u64) * 4_294_967_296 + (long_at(text, low) as u64)
+    u64::from(at::<u32>(text, high)) * 4_294_967_296 + u64::from(at::<u32>(text, low))
 }
 
 pub fn ticks_at(text: &[u8], place: usize) -> Ticks

@@ -1,20 +1,15 @@
 -- Setting the time, the strobe and the periodic output. Each is refused by a table of lines, 18 first, and beside a refusal the clock is as it was.
-use Rattle.std.specs.Prelude.{ℕ, ◌+◌, ◌*◌, Bool, true, ◌&&◌, not, List, [], ◌∷◌, leb, eqb}
-use Rattle.wire.specs.Digits.{pick}
-use Rattle.wire.specs.Numbers.{Line, ◌if◌, given}
+use Rattle.std.specs.Prelude.{ℕ, ◌+◌, ◌*◌, Bool, true, ◌&&◌, not, List, [], ◌∷◌, leb}
+use Rattle.wire.specs.declared.numbers.Answer.{Answer}
+use Rattle.wire.specs.Numbers.{Line, ◌if◌, granted}
 use Rattle.wire.specs.Time.{tick_at}
 use Rattle.clock.specs.declared.clock.Strobe.{Strobe}
 use Rattle.clock.specs.declared.clock.Periodic.{Periodic}
 use Rattle.clock.specs.declared.clock.Clock.{Clock}
-use Rattle.clock.specs.declared.setting.Answer.{Answer}
 use Rattle.clock.specs.declared.setting.StrobeAt.{StrobeAt}
 use Rattle.clock.specs.declared.setting.Dividers.{Dividers}
 use Rattle.clock.specs.Time.{instant, days_in}
 use Rattle.clock.specs.Clocks.{clock_lawful, with_time, with_strobe, with_periodic}
-
--- what a call with these lines answers: the changed clock if none of them holds, else the clock as it was and the number
-abbrev pub granted : List Line → Clock → Clock → Answer
-granted ls c changed = record { clock = pick (eqb (given ls) 0) changed c; number = given ls }
 
 -- THE TIME
 
@@ -35,9 +30,9 @@ time_lines year day hour minute second = 11 if not (date_fits year day hour minu
 abbrev pub time_set : Clock → ℕ → ℕ → ℕ → ℕ → ℕ → Clock
 time_set c year day hour minute second = with_time c (instant year day (tick_at hour minute second 0))
 
-abbrev pub set_time : Clock → ℕ → ℕ → ℕ → ℕ → ℕ → Answer
+abbrev pub set_time : Clock → ℕ → ℕ → ℕ → ℕ → ℕ → Answer Clock Unit
 set_time c year day hour minute second =
-    granted (18 if not (clock_lawful c) ∷ time_lines year day hour minute second) c (time_set c year day hour minute second)
+    granted (18 if not (clock_lawful c) ∷ time_lines year day hour minute second) c (time_set c year day hour minute second) tt
 
 -- THE STROBE
 
@@ -57,8 +52,8 @@ strobe_kept (StrobeAt.EachSecond ms) = Strobe.EachSecond (record { ms = ms })
 abbrev pub strobe_lines : StrobeAt → List Line
 strobe_lines s = 13 if not (strobe_fits s) ∷ []
 
-abbrev pub set_strobe : Clock → StrobeAt → Answer
-set_strobe c s = granted (18 if not (clock_lawful c) ∷ strobe_lines s) c (with_strobe c (strobe_kept s))
+abbrev pub set_strobe : Clock → StrobeAt → Answer Clock Unit
+set_strobe c s = granted (18 if not (clock_lawful c) ∷ strobe_lines s) c (with_strobe c (strobe_kept s)) tt
 
 -- THE PERIODIC OUTPUT
 
@@ -76,5 +71,5 @@ periodic_kept (Dividers.By n1 n2) = Periodic.Every n1 n2 0
 abbrev pub divider_lines : Dividers → List Line
 divider_lines d = 12 if not (dividers_fit d) ∷ []
 
-abbrev pub set_periodic : Clock → Dividers → Answer
-set_periodic c d = granted (18 if not (clock_lawful c) ∷ divider_lines d) c (with_periodic c (periodic_kept d))
+abbrev pub set_periodic : Clock → Dividers → Answer Clock Unit
+set_periodic c d = granted (18 if not (clock_lawful c) ∷ divider_lines d) c (with_periodic c (periodic_kept d)) tt

@@ -1,5 +1,5 @@
 -- WITHIN THE CRATE: what the functions behind a wait promise one another, the next fall of each source. Nothing here is a promise of the clock's.
-use Rattle.std.specs.Prelude.{ℕ, ◌+◌, ◌%◌, ◌≤◌, ◌<◌, min, ◌≡◌, Bool, true, false, length, leb, eqb}
+use Rattle.std.specs.Prelude.{ℕ, ◌+◌, ◌%◌, ◌≤◌, ◌<◌, min, ◌≡◌, Bool, true, false, leb, eqb}
 use Rattle.wire.specs.Digits.{pick}
 use Rattle.wire.specs.Time.{ticks_of_day}
 use Rattle.clock.specs.declared.clock.Strobe.{Strobe}
@@ -8,10 +8,8 @@ use Rattle.clock.specs.declared.time.Time.{Time}
 use Rattle.clock.specs.declared.falling.Source.{Source}
 use Rattle.clock.specs.declared.falling.Sources.{Sources}
 use Rattle.clock.specs.declared.waiting.Fell.{Fell}
-use Rattle.clock.specs.declared.waiting.Listed.{Listed}
 use Rattle.clock.specs.Time.{later}
 use Rattle.clock.specs.Falling.{second_falls, strobe_falls, periodic_falls}
-use Rattle.clock.specs.Waiting.{listed, passed, fell}
 
 -- d is the distance from x to the next number above x with the remainder r by p
 pub record Gap (x p r d : ℕ) : Type 0 where
@@ -50,9 +48,12 @@ pub record Ready (c : Clock) (a : ℕ) (r : Sources) : Type 0 where
 abbrev pub least_of : Sources → ℕ
 least_of s = min (min s.second.next s.strobe.next) s.periodic.next
 
--- the sources whose next fall is on a tick, as a record adds them up
+-- the weight of a source whose next fall is on a tick, and those of the three, as a record adds them up
+abbrev pub mark_of : Source → ℕ → ℕ → ℕ
+mark_of s at weight = pick (eqb s.next at) weight 0
+
 unfoldable pub marks : Sources → ℕ → ℕ
-marks s at = pick (eqb s.periodic.next at) 1 0 + (pick (eqb s.strobe.next at) 2 0 + pick (eqb s.second.next at) 4 0)
+marks s at = mark_of s.periodic at 1 + (mark_of s.strobe at 2 + mark_of s.second at 4)
 
 -- a source past a tick: a period on if it fell there
 unfoldable pub past_of : Source → ℕ → Source
@@ -72,6 +73,3 @@ pub record Brief (s : Sources) : Type 0 where
 -- the sources whose first fall is within p ticks
 abbrev pub within : Sources → ℕ → Fell
 within first p = record { periodic = leb first.periodic.next p; strobe = leb first.strobe.next p; second = leb first.second.next p }
-
-unfoldable pub listing : Clock → ℕ → ℕ → Listed
-listing c n room = record { passed = passed c n room; written = length (listed c n room); fell = fell (listed c n room) }

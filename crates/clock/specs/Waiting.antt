@@ -1,7 +1,8 @@
 -- Waiting: the records of a window, from the falling rules alone, and the clock when its ticks have passed.
 use Rattle.std.specs.Prelude.{ℕ, zero, suc, pred, ◌+◌, ◌*◌, ◌/◌, ◌%◌, ◌<◌, ◌≡◌, Bool, false, not, ◌||◌, List, [], ◌∷◌, ◌++◌, map, length, take, drop, get_or, leb, ltb, eqb}
 use Rattle.wire.specs.Digits.{pick}
-use Rattle.wire.specs.Numbers.{Line, ◌if◌, given}
+use Rattle.wire.specs.declared.numbers.Answer.{Answer}
+use Rattle.wire.specs.Numbers.{Line, ◌if◌, given, granted}
 use Rattle.wire.specs.Time.{ticks_of_day}
 use Rattle.clock.specs.declared.clock.Periodic.{Periodic}
 use Rattle.clock.specs.declared.clock.Clock.{Clock}
@@ -79,18 +80,17 @@ wait_lines c n room =
 unfoldable pub pass_refusal : Clock → ℕ → ℕ → ℕ
 pass_refusal c n room = given (18 if not (clock_lawful c) ∷ wait_lines c n room)
 
+-- what it gives: the ticks passed, the records written, and the sources that they have
+unfoldable pub listing : Clock → ℕ → ℕ → Passed
+listing c n room = record { passed = record { ticks = passed c n room }; written = length (listed c n room); fell = fell (listed c n room) }
+
+-- and beside a refusal: zeros and none
+abbrev pub nothing : Passed
+nothing = record { passed = record { ticks = 0 }; written = 0; fell = fell [] }
+
 -- what a wait of n ticks with so many places answers
-unfoldable pub pass : Clock → ℕ → ℕ → Passed
-pass c n room =
-    pick (eqb (pass_refusal c n room) 0)
-    (record {
-      clock = clock_later (passed c n room) c;
-      number = 0;
-      passed = record { ticks = passed c n room };
-      written = length (listed c n room);
-      fell = fell (listed c n room);
-    })
-    (record { clock = c; number = pass_refusal c n room; passed = record { ticks = 0 }; written = 0; fell = fell [] })
+unfoldable pub pass : Clock → ℕ → ℕ → Answer Clock Passed
+pass c n room = granted (18 if not (clock_lawful c) ∷ wait_lines c n room) c (clock_later (passed c n room) c) (listing c n room)
 
 -- and what it leaves in the row
 unfoldable pub row_passed : Clock → ℕ → List ℕ → List ℕ

@@ -3,7 +3,7 @@ use crate::time::Time;
 use wire::time::Milliseconds;
 
 // When the strobe falls: never; each day at a millisecond of the day; each second at a millisecond of the second.
-#[derive(Clone, Copy)]
+#[derive(Clone, Copy, Debug, PartialEq, Eq)]
 pub enum Strobe {
     Off,
     Daily(Milliseconds),
@@ -11,13 +11,13 @@ pub enum Strobe {
 }
 
 // The periodic output: off, or two dividers and the ticks gone since it last fell.
-#[derive(Clone, Copy)]
+#[derive(Clone, Copy, Debug, PartialEq, Eq)]
 pub enum Periodic {
     Off,
     Every { n1: u16, n2: u16, count: u32 },
 }
 
-#[derive(Clone, Copy)]
+#[derive(Clone, Copy, Debug, PartialEq, Eq)]
 pub struct Clock {
     pub time: Time,
     pub strobe: Strobe,

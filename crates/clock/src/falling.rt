@@ -1,16 +1,21 @@
 // Strobe, periodic, second: the next fall of each, counted in ticks from the wait's start.
-ghost use Rattle.std.specs.Prelude.{◌≡◌, true, ◌≤◌, ◌<◌};
-ghost use Rattle.clock.specs.Time.{time_lawful};
-ghost use Rattle.clock.specs.Clocks.{clock_lawful};
-ghost use Rattle.clock.specs.Falling.{strobe_lawful, periodic_lawful, periodic_falls};
+ghost use Rattle.std.specs.Prelude.{◌≡◌, ◌*◌, ◌≤◌, ◌<◌};
+ghost use Rattle.clock.specs.Falling.{periodic_falls};
 ghost use Rattle.clock.specs.Sources.{Gap, Rhythm, Ready, second_on, strobe_on};
 
-use crate::clock::{Clock, Periodic, Strobe};
-use crate::time::Time;
-use wire::time::{TICKS_OF_DAY, ticks_of};
+use crate::clock::{Periodic, Strobe};
+use crate::lawful::LawfulClock;
+use wire::time::{TICKS_OF_DAY, Ticks};
 
-// A tick that no window reaches, since none is above a day.
-const NEVER: u64 = TICKS_OF_DAY + 1;
+// The ticks of a second.
+const SECOND: u64 = 10_000_000;
+
+// The ticks from each fall of the periodic output to the one after.
+pub(crate) fn period_of(n1: u16, n2: u16) -> u64
+    ensures { (result ≡ n1 * n2) × (result ≤ 4294836225) }
+{
+    u64::from(n1) * u64::from(n2)
+}
 
 // A source: the tick of its next fall, and the ticks from each fall to the one after.
 #[derive(Clone, Copy)]
@@ -19,7 +24,7 @@ pub(crate) struct Source {
     pub period: u64,
 }
 
-// The three sources.
+// The three sources, each by its name and not in a row of three: a record weighs each differently, and what is proved of each is another.
 #[derive(Clone, Copy)]
 pub(crate) struct Sources {
     pub second: Source,
@@ -27,87 +32,69 @@ pub(crate) struct Sources {
     pub periodic: Source,
 }
 
-// The distance from x to the next number above it that leaves the remainder r by p.
-fn gap(x: u64, p: u64, r: u64) -> u64
-    requires { (r < p) × (p ≤ 864000000000) }
-    ensures { Gap x p r result }
-{
-    let m = x % p;
-    if m < r { r - m } else { p - m + r }
-}
+impl Source {
+    // One that is off: its next fall is on a tick that no window reaches, since none is above a day. With None instead each tick would take one branch more for each source.
+    const OFF: Source = Source {
+        next: TICKS_OF_DAY + 1,
+        period: TICKS_OF_DAY,
+    };
 
-// The second from a time on.
-fn second_source(time: Time) -> Source
-    requires { time_lawful time ≡ true }
-    ensures { Rhythm (second_on time) 0 result }
-{
-    Source {
-        next: gap(time.tick.ticks, 10_000_000, 0),
-        period: 10_000_000,
-    }
-}
-
-// The strobe from a time on; beyond any window where it is off.
-fn strobe_source(strobe: Strobe, time: Time) -> Source
-    requires { (strobe_lawful strobe ≡ true) × (time_lawful time ≡ true) }
-    ensures { Rhythm (strobe_on strobe time) 0 result }
-{
-    match strobe {
-        Strobe::Off => Source {
-            next: NEVER,
-            period: TICKS_OF_DAY,
-        },
-        Strobe::Daily(ms) => {
-            let at = ticks_of(ms);
-            Source {
-                next: gap(time.tick.ticks, TICKS_OF_DAY, at.ticks),
-                period: TICKS_OF_DAY,
-            }
-        }
-        Strobe::EachSecond(ms) => {
-            let at = ticks_of(ms);
-            Source {
-                next: gap(time.tick.ticks, 10_000_000, at.ticks),
-                period: 10_000_000,
-            }
+    // One that falls on the numbers with the remainder r by its period: the distance from x to the next of them above it.
+    #[tactic(auto, using(crate::proofs::falling::Laws::gap_low, crate::proofs::falling::Laws::gap_high))]
+    fn above(x: u64, period: u64, r: u64) -> Source
+        requires { (r < period) × (period ≤ 864000000000) }
+        ensures { Gap x period r result.next × (result.period ≡ period) }
+    {
+        let m = x % period;
+        Source {
+            next: if m < r { r - m } else { period - m + r },
+            period,
         }
     }
 }
 
-// The periodic output from now on; beyond any window where it is off.
-fn periodic_source(periodic: Periodic) -> Source
-    requires { periodic_lawful periodic ≡ true }
-    ensures { Rhythm (periodic_falls periodic) 0 result }
-{
-    match periodic {
-        Periodic::Off => Source {
-            next: NEVER,
-            period: TICKS_OF_DAY,
-        },
-        Periodic::Every { n1, n2, count } => {
-            let period = (n1 as u64) * (n2 as u64);
-            Source {
-                next: gap(count as u64, period, 0),
-                period: period,
-            }
+impl LawfulClock {
+    // The second from now on.
+    fn second(self) -> Source
+        ensures { Rhythm (second_on self.clock.time) 0 result }
+    {
+        Source::above(self.clock.time.tick.ticks, SECOND, 0)
+    }
+
+    // The strobe from now on.
+    fn strobe(self) -> Source
+        ensures { Rhythm (strobe_on self.clock.strobe self.clock.time) 0 result }
+    {
+        let tick = self.clock.time.tick.ticks;
+        match self.clock.strobe {
+            Strobe::Off => Source::OFF,
+            Strobe::Daily(ms) => Source::above(tick, TICKS_OF_DAY, Ticks::from(ms).ticks),
+            Strobe::EachSecond(ms) => Source::above(tick, SECOND, Ticks::from(ms).ticks),
         }
     }
-}
 
-// The three of a lawful clock, from now on.
-pub(crate) fn sources_from(clock: Clock) -> Sources
-    requires { clock_lawful clock ≡ true }
-    ensures { Ready clock 0 result }
-{
-    let time = clock.time;
-    let strobe = clock.strobe;
-    let periodic = clock.periodic;
-    let second = second_source(time);
-    let strobe = strobe_source(strobe, time);
-    let periodic = periodic_source(periodic);
-    Sources {
-        second: second,
-        strobe: strobe,
-        periodic: periodic,
+    // The periodic output from now on.
+    fn periodic(self) -> Source
+        ensures { Rhythm (periodic_falls self.clock.periodic) 0 result }
+    {
+        match self.clock.periodic {
+            Periodic::Off => Source::OFF,
+            Periodic::Every { n1, n2, count } => Source::above(
+                u64::from(count),
+                period_of(n1, n2),
+                0,
+            ),
+        }
+    }
+
+    // The three of them.
+    pub(crate) fn sources(self) -> Sources
+        ensures { Ready self.clock 0 result }
+    {
+        Sources {
+            second: self.second(),
+            strobe: self.strobe(),
+            periodic: self.periodic(),
+        }
     }
 }

@@ -7,6 +7,7 @@
 
 pub mod clock;
 mod falling;
+mod later;
 pub mod lawful;
 pub mod setting;
 pub mod time;

@@ -1,242 +1,173 @@
 // Waiting: every fall of a window, once, in order.
-ghost use Rattle.std.specs.Prelude.{◌≡◌, true, [], ◌+◌, ◌*◌, ◌≤◌, ◌<◌, min, length, eqb};
-ghost use Rattle.wire.specs.Digits.{pick};
-ghost use Rattle.clock.specs.Falling.{periodic_lawful};
-ghost use Rattle.clock.specs.Clocks.{clock_lawful};
-ghost use Rattle.clock.specs.Waiting.{row_listed, fell, count_later, clock_later, pass_refusal, pass, row_passed};
-ghost use Rattle.clock.specs.Sources.{least_of, marks, past_of, all_past, Brief, within, listing};
+ghost use Rattle.std.specs.Prelude.{◌≡◌, ◌+◌, ◌*◌, ◌≤◌, ◌<◌, ◌≢◌, length, MatchOption, MatchResult};
+ghost use Rattle.wire.specs.Numbers.{refusal};
+ghost use Rattle.clock.specs.Waiting.{row_listed, listing, pass_refusal, pass, row_passed};
+ghost use Rattle.clock.specs.Sources.{least_of, mark_of, marks, past_of, all_past, Brief, within};
 
-use crate::clock::{Clock, Periodic};
-use crate::falling::{Source, Sources, sources_from};
-use crate::lawful::clock_fits;
-use crate::time::later_time;
-use wire::numbers;
-use wire::time::{TICKS_OF_DAY, Ticks};
+use crate::clock::Clock;
+use crate::falling::{Source, Sources};
+use crate::later::Span;
+use crate::lawful::LawfulClock;
+use wire::numbers::{Answer, Refusal};
+use wire::time::Ticks;
 
 // Which of the three sources fell.
-#[derive(Clone, Copy)]
+#[derive(Clone, Copy, Debug, PartialEq, Eq)]
 pub struct Fell {
     pub periodic: bool,
     pub strobe: bool,
     pub second: bool,
 }
 
-// What a wait answers: the clock that it leaves, its number, the ticks passed, the records written, and the sources that they have; beside a refusal the
-// clock as it was, zeros and none.
-#[derive(Clone, Copy)]
+// What a wait gives: the ticks passed, the records written, and the sources that they have.
+#[derive(Clone, Copy, Debug, PartialEq, Eq)]
 pub struct Passed {
-    pub clock: Clock,
-    pub number: u8,
     pub passed: Ticks,
     pub written: usize,
     pub fell: Fell,
 }
 
-// What filling a row comes to.
-#[derive(Clone, Copy)]
-struct Listed {
-    passed: u64,
-    written: usize,
-    fell: Fell,
-}
-
-// The lesser of two numbers.
-fn less(a: u64, b: u64) -> u64
-    ensures { result ≡ min a b }
-{
-    if a < b { a } else { b }
-}
-
-// The least of the three next falls.
-fn least(s: Sources) -> u64
-    ensures { result ≡ least_of s }
-{
-    less(less(s.second.next, s.strobe.next), s.periodic.next)
-}
-
-// The weight of a source in a record, if its next fall is on that tick.
-fn mark(next: u64, at: u64, weight: u64) -> u64
-    ensures { (result ≡ pick (eqb next at) weight 0) × (result ≤ weight) }
-{
-    if next == at { weight } else { 0 }
-}
-
-// The record of a tick.
-fn record_on(s: Sources, at: u64) -> u64
-    requires { at ≤ 864000000000 }
-    ensures { result ≡ 8 * at + marks s at }
-{
-    let periodic = mark(s.periodic.next, at, 1);
-    let strobe = mark(s.strobe.next, at, 2);
-    let second = mark(s.second.next, at, 4);
-    8 * at + (periodic + (strobe + second))
-}
-
-// A source past a tick: a period on if it fell there.
-fn past(s: Source, at: u64) -> Source
-    requires { (at ≤ 864000000000) × (s.period ≤ 864000000000) }
-    ensures { result ≡ past_of s at }
-{
-    if s.next == at {
-        return Source {
-            next: at + s.period,
-            period: s.period,
-        };
+impl Source {
+    // The weight of the source in a record, if its next fall is on that tick.
+    fn mark(self, at: Span, weight: u64) -> u64
+        ensures { (result ≡ mark_of self at.ticks weight) × (result ≤ weight) }
+    {
+        if self.next == at.ticks { weight } else { 0 }
     }
-    s
-}
 
-// The three past a tick.
-fn all_past(s: Sources, at: u64) -> Sources
-    requires { (at ≤ 864000000000) × Brief s }
-    ensures { result ≡ all_past s at }
-{
-    let second = s.second;
-    let strobe = s.strobe;
-    let periodic = s.periodic;
-    let second = past(second, at);
-    let strobe = past(strobe, at);
-    let periodic = past(periodic, at);
-    Sources {
-        second: second,
-        strobe: strobe,
-        periodic: periodic,
-    }
-}
-
-// A row filled so far: a source has fallen exactly if its first fall is among the ticks passed, so nothing is gathered on the way.
-fn told(first: Sources, passed: u64, written: usize) -> Listed
-    ensures { result ≡ record { passed = passed; written = written; fell = within first passed } }
-{
-    Listed {
-        passed: passed,
-        written: written,
-        fell: Fell {
-            periodic: first.periodic.next <= passed,
-            strobe: first.strobe.next <= passed,
-            second: first.second.next <= passed,
-        },
-    }
-}
-
-// Fills the row with the records of a window, from one next fall to the next. Places behind them stay as they were.
-fn list(clock: Clock, ticks: u64, row: &mut [u64]) -> Listed
-    requires { (clock_lawful clock ≡ true) × (ticks ≤ 864000000000) × (0 < length row.old) }
-    ensures { (result ≡ listing clock ticks (length row.old)) × (row.new ≡ row_listed clock ticks row.old) }
-{
-    let first = sources_from(clock);
-    let mut next = first;
-    let mut last: u64 = 0;
-    let mut i: usize = 0;
-    while i < row.len() {
-        let at = least(next);
-        if ticks < at {
-            return told(first, ticks, i);
-        }
-        row[i] = record_on(next, at);
-        next = all_past(next, at);
-        last = at;
-        i += 1;
-    }
-    if ticks < least(next) {
-        return told(first, ticks, i);
-    }
-    told(first, last, i)
-}
-
-// The count so many ticks later.
-fn count_later(periodic: Periodic, ticks: u64) -> Periodic
-    requires { (periodic_lawful periodic ≡ true) × (ticks ≤ 864000000000) }
-    ensures { result ≡ count_later ticks periodic }
-{
-    match periodic {
-        Periodic::Off => Periodic::Off,
-        Periodic::Every { n1, n2, count } => {
-            let period = (n1 as u64) * (n2 as u64);
-            let gone = ((count as u64) + ticks) % period;
-            Periodic::Every {
-                n1: n1,
-                n2: n2,
-                count: gone as u32,
+    // The source past a tick: a period on if it fell there.
+    #[tactic(auto, unfolding(crate::specs::Sources::past_of))]
+    fn past(self, at: Span) -> Source
+        requires { self.period ≤ 864000000000 }
+        ensures { result ≡ past_of self at.ticks }
+    {
+        if self.next == at.ticks {
+            Source {
+                next: at.ticks + self.period,
+                ..self
             }
+        } else {
+            self
         }
     }
 }
 
-// The clock so many ticks later.
-fn clock_later(clock: Clock, ticks: u64) -> Clock
-    requires { (clock_lawful clock ≡ true) × (ticks ≤ 864000000000) }
-    ensures { result ≡ clock_later ticks clock }
-{
-    let time = clock.time;
-    let strobe = clock.strobe;
-    let periodic = clock.periodic;
-    let time = later_time(time, ticks);
-    let periodic = count_later(periodic, ticks);
-    Clock {
-        time: time,
-        strobe: strobe,
-        periodic: periodic,
+impl Sources {
+    // The least of the three next falls.
+    fn least(self) -> u64
+        ensures { result ≡ least_of self }
+    {
+        self.second
+            .next
+            .min(self.strobe.next)
+            .min(self.periodic.next)
+    }
+
+    // The record of a tick.
+    #[tactic(auto, unfolding(crate::specs::Sources::marks))]
+    fn record_on(self, at: Span) -> u64
+        ensures { result ≡ 8 * at.ticks + marks self at.ticks }
+    {
+        8 * at.ticks
+            + (self.periodic.mark(at, 1) + (self.strobe.mark(at, 2) + self.second.mark(at, 4)))
+    }
+
+    // The three past a tick.
+    #[tactic(auto, unfolding(crate::specs::Sources::all_past))]
+    fn past(self, at: Span) -> Sources
+        requires { Brief self }
+        ensures { result ≡ all_past self at.ticks }
+    {
+        Sources {
+            second: self.second.past(at),
+            strobe: self.strobe.past(at),
+            periodic: self.periodic.past(at),
+        }
+    }
+
+    // A row filled so far: a source has fallen exactly if its first fall is among the ticks passed, so nothing is gathered on the way.
+    fn told(self, passed: u64, written: usize) -> Passed
+        ensures { result ≡ record { passed = record { ticks = passed }; written = written; fell = within self passed } }
+    {
+        Passed {
+            passed: Ticks { ticks: passed },
+            written,
+            fell: Fell {
+                periodic: self.periodic.next <= passed,
+                strobe: self.strobe.next <= passed,
+                second: self.second.next <= passed,
+            },
+        }
     }
 }
 
-// The number that refuses a wait, 0 if none does.
-fn pass_refusal(clock: Clock, ticks: u64, room: usize) -> u8
-    ensures { result ≡ pass_refusal clock ticks room }
+impl Span {
+    // A tick, if it is among these.
+    fn reach(self, tick: u64) -> Option<Span>
+        ensures { MatchOption result (self.ticks < tick) (λ s. (s.ticks ≡ tick) × (tick ≤ self.ticks)) }
+    {
+        if tick <= self.ticks {
+            Some(Span { ticks: tick })
+        } else {
+            None
+        }
+    }
+}
+
+impl LawfulClock {
+    // Fills the row with the records of a window, from one next fall to the next. Places behind them stay as they were.
+    fn list(self, span: Span, row: &mut [u64]) -> Passed
+        requires { 0 < length row.old }
+        ensures { (result ≡ listing self.clock span.ticks (length row.old)) × (row.new ≡ row_listed self.clock span.ticks row.old) }
+    {
+        let first = self.sources();
+        let mut next = first;
+        let mut last = 0;
+        for (i, place) in row.iter_mut().enumerate() {
+            let Some(at) = span.reach(next.least()) else {
+                return first.told(span.ticks, i);
+            };
+            *place = next.record_on(at);
+            next = next.past(at);
+            last = at.ticks;
+        }
+        if span.ticks < next.least() {
+            first.told(span.ticks, row.len())
+        } else {
+            first.told(last, row.len())
+        }
+    }
+}
+
+// The wait that is asked for, or why it is refused.
+#[tactic(auto, using(wire::proofs::numbers::Names::names), unfolding(crate::specs::Waiting::pass_refusal))]
+fn asked(clock: Clock, ticks: Ticks, room: usize) -> Result<(LawfulClock, Span), Refusal>
+    ensures { MatchResult result (λ w. ((w.0.clock ≡ clock) × (w.1.ticks ≡ ticks.ticks)) × (pass_refusal clock ticks.ticks room ≡ 0)) (λ r. (r ≡ refusal (pass_refusal clock ticks.ticks room)) × (pass_refusal clock ticks.ticks room ≢ 0)) }
 {
-    if !clock_fits(clock) {
-        return numbers::UNLAWFUL;
-    }
-    if ticks > TICKS_OF_DAY {
-        return numbers::OVER_A_DAY;
-    }
+    let clock = LawfulClock::of(clock)?;
+    let span = Span::of(ticks.ticks)?;
     if room == 0 {
-        return numbers::SHORT_ROW;
+        return Err(Refusal::ShortRow);
     }
-    let time = clock.time;
-    let end = later_time(time, ticks);
-    if end.year > 9999 {
-        return numbers::PAST_9999;
+    if clock.time_later(span).year > 9999 {
+        return Err(Refusal::Past9999);
     }
-    numbers::DONE
-}
-
-// What a refused wait answers.
-fn refused(clock: Clock, number: u8) -> Passed
-    ensures { result ≡ record { clock = clock; number = number; passed = record { ticks = 0 }; written = 0; fell = fell [] } }
-{
-    Passed {
-        clock: clock,
-        number: number,
-        passed: Ticks { ticks: 0 },
-        written: 0,
-        fell: Fell {
-            periodic: false,
-            strobe: false,
-            second: false,
-        },
-    }
+    Ok((clock, span))
 }
 
 // Lets at most a day of ticks pass: lists in the row every tick after the start, up to the last tick passed, on which second, strobe or periodic falls. It
 // stops early only if there are more such ticks than places. Refused by 18, 15, 14 and 16, in this order, it changes nothing.
-pub fn pass(clock: Clock, ticks: Ticks, row: &mut [u64]) -> Passed
+pub fn pass(clock: Clock, ticks: Ticks, row: &mut [u64]) -> Answer<Clock, Passed>
     ensures { (result ≡ pass clock ticks.ticks (length row.old)) × (row.new ≡ row_passed clock ticks.ticks row.old) }
 {
-    let number = pass_refusal(clock, ticks.ticks, row.len());
-    if number != numbers::DONE {
-        return refused(clock, number);
-    }
-    let listed = list(clock, ticks.ticks, row);
-    let fell = listed.fell;
-    let later = clock_later(clock, listed.passed);
-    Passed {
-        clock: later,
-        number: numbers::DONE,
-        passed: Ticks {
-            ticks: listed.passed,
-        },
-        written: listed.written,
-        fell: fell,
+    match asked(clock, ticks, row.len()) {
+        Ok((clock, span)) => {
+            let listed = clock.list(span, row);
+            let passed = Span {
+                ticks: listed.passed.ticks,
+            };
+            Answer::done(clock.later(passed), listed)
+        }
+        Err(refusal) => Answer::refused(clock, refusal),
     }
 }

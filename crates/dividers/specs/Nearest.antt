@@ -1,10 +1,11 @@
 -- The nearest sample period: the plain rule, the one pair that it names, and the call.
-use Rattle.std.specs.Prelude.{ℕ, zero, suc, ◌+◌, ◌≤◌, ◌<◌, ◌≡◌, Bool, true, ◌&&◌, ◌||◌, not, List, [], ◌∷◌, leb, ltb, eqb}
+use Rattle.std.specs.Prelude.{ℕ, zero, suc, ◌+◌, ◌≤◌, ◌<◌, ◌≡◌, Bool, true, ◌&&◌, ◌||◌, not, List, [], ◌∷◌, Result, leb, ltb, eqb}
 use Rattle.wire.specs.Digits.{pick}
-use Rattle.wire.specs.Numbers.{Line, ◌if◌, given}
+use Rattle.wire.specs.declared.numbers.Refusal.{Refusal}
+use Rattle.wire.specs.Numbers.{Line, ◌if◌, given, answered, given_or}
 use Rattle.dividers.specs.declared.pairs.Pair.{Pair}
-use Rattle.dividers.specs.declared.nearest.Found.{Found}
-use Rattle.dividers.specs.Pairs.{pair, lawful, product, period, distance}
+use Rattle.dividers.specs.declared.pairs.Nearest.{Nearest}
+use Rattle.dividers.specs.Pairs.{pair, lawful, product, distance, measured}
 
 -- THE PLAIN RULE
 
@@ -46,15 +47,16 @@ wanted_fits wanted = leb 400 wanted && leb wanted 429483622500
 abbrev pub wanted_lines : ℕ → List Line
 wanted_lines wanted = 21 if not (wanted_fits wanted) ∷ []
 
--- the nearest pair, its period and its distance; zeros beside a refusal
-abbrev pub nearest_pair : ℕ → Found
-nearest_pair wanted =
-    record {
-      pair = pick (eqb (given (wanted_lines wanted)) 0) (nearest wanted) (pair 0 0);
-      period = pick (eqb (given (wanted_lines wanted)) 0) (period (nearest wanted)) 0;
-      distance = pick (eqb (given (wanted_lines wanted)) 0) (distance wanted (nearest wanted)) 0;
-      number = given (wanted_lines wanted);
-    }
+-- the nearest pair, its period and its distance
+abbrev pub nearest_pair : ℕ → Result Nearest Refusal
+nearest_pair wanted = answered (given (wanted_lines wanted)) (measured wanted (nearest wanted))
+
+-- what is given back; zeros beside a refusal
+abbrev pub zeros : Nearest
+zeros = record { pair = pair 0 0; period = 0; distance = 0 }
+
+abbrev pub found : ℕ → Nearest
+found wanted = given_or zeros (nearest_pair wanted)
 
 -- WITHIN THE CRATE
 

@@ -5,7 +5,7 @@ use Rattle.wire.specs.Digits.{pick}
 use Rattle.clock.specs.declared.setting.Dividers.TheVariants as Dividers
 use Rattle.clock.specs.Setting.{dividers_fit}
 use Rattle.dividers.specs.declared.pairs.Pair.{Pair}
-use Rattle.dividers.specs.declared.pairs.Measured.{Measured}
+use Rattle.dividers.specs.declared.pairs.Nearest.{Nearest}
 
 abbrev pub pair : ℕ → ℕ → Pair
 pair n1 n2 = record { n1 = n1; n2 = n2 }
@@ -28,12 +28,12 @@ apart a b = (a - b) + (b - a)
 abbrev pub distance : ℕ → Pair → ℕ
 distance wanted p = apart wanted (period p)
 
--- WITHIN THE CRATE
-
 -- a pair measured against a wanted period
-abbrev pub measured : ℕ → Pair → Measured
+abbrev pub measured : ℕ → Pair → Nearest
 measured wanted p = record { pair = p; period = period p; distance = distance wanted p }
 
+-- WITHIN THE CRATE
+
 -- the nearer of two; of equal distances the one with the smaller period; of equal periods the second
-unfoldable pub nearer : Measured → Measured → Measured
+unfoldable pub nearer : Nearest → Nearest → Nearest
 nearer p q = pick (ltb p.distance q.distance || (eqb p.distance q.distance && ltb p.period q.period)) p q

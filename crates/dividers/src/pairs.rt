@@ -8,44 +8,42 @@ pub(crate) const SMALLEST: u32 = 2;
 pub(crate) const LARGEST: u32 = 65_535;
 
 // Two dividers, as the periodic output takes them.
-#[derive(Clone, Copy)]
+#[derive(Clone, Copy, Debug, PartialEq, Eq, Default)]
 pub struct Pair {
     pub n1: u32,
     pub n2: u32,
 }
 
 // A pair measured against a wanted period: its own, and how far the two are apart, in nanoseconds.
-#[derive(Clone, Copy)]
-pub(crate) struct Measured {
-    pub(crate) pair: Pair,
-    pub(crate) period: u64,
-    pub(crate) distance: u64,
+#[derive(Clone, Copy, Debug, PartialEq, Eq, Default)]
+pub struct Nearest {
+    pub pair: Pair,
+    pub period: u64,
+    pub distance: u64,
 }
 
 // Measures two dividers against a wanted period.
-pub(crate) fn measure(wanted: u64, n1: u32, n2: u32) -> Measured
+#[tactic(auto, using(crate::proofs::pairs::Laws::product_most, crate::proofs::pairs::Laws::apart_is))]
+pub(crate) fn measure(wanted: u64, n1: u32, n2: u32) -> Nearest
     requires { (n1 ≤ 65535) × (n2 ≤ 65535) }
     ensures { result ≡ measured wanted (pair n1 n2) }
 {
-    let period = 100 * ((n1 as u64) * (n2 as u64));
-    let distance = if period < wanted {
-        wanted - period
-    } else {
-        period - wanted
-    };
-    Measured {
-        pair: Pair { n1: n1, n2: n2 },
-        period: period,
-        distance: distance,
+    let period = 100 * (u64::from(n1) * u64::from(n2));
+    Nearest {
+        pair: Pair { n1, n2 },
+        period,
+        distance: wanted.abs_diff(period),
     }
 }
 
 // The nearer of two; of equal distances the one with the smaller period; of equal periods the second.
-pub(crate) fn nearer(p: Measured, q: Measured) -> Measured
+#[tactic(auto, unfolding(crate::specs::Pairs::nearer))]
+pub(crate) fn nearer(p: Nearest, q: Nearest) -> Nearest
     ensures { result ≡ nearer p q }
 {
-    if (p.distance < q.distance) | ((p.distance == q.distance) & (p.period < q.period)) {
-        return p;
+    if p.distance < q.distance || (p.distance == q.distance && p.period < q.period) {
+        p
+    } else {
+        q
     }
-    q
 }

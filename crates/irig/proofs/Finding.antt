@@ -1,7 +1,7 @@
 -- Any run of calls finds just the frames of the elements that it took, in their order and at their places, and leaves the record that these elements leave: so nothing depends on
 -- the cuts. By what comes of the elements one by one. Assumes nothing.
 use Prim.Native.Nat.{ℕ, zero, suc, ◌+◌, ◌-◌, ◌≤◌, ◌<◌}
-use mathlib.Core.Path.{◌≡◌, refl, sym, ◌∙◌, ap, ap₂}
+use mathlib.Core.Path.{◌≡◌, refl, sym, ◌∙◌, ap, ap₂, subst}
 use mathlib.Core.Bool.{Bool, true, false, ◌&&◌}
 use mathlib.Core.List.{List, [], ◌∷◌, ◌++◌, append_assoc, append-nil}
 use mathlib.Core.Logic.{⊎_elim}
@@ -12,16 +12,17 @@ use lib.ListN.{length, get_or, take, drop, set, replicate, length-drop, take-app
 use lib.Seq.{length-take-le, drop-length, drop-drop}
 use borrow.Author.Tests.{lt-ltb, le-ltb, eqb-true}
 use Rattle.wire.specs.Digits.{pick}
-use Rattle.wire.proofs.digits.Laws.{lt_or_le, and_right, clash}
+use Rattle.wire.proofs.digits.Laws.{lt_or_le, and_right}
 use Rattle.irig.specs.declared.stream.Stream.{Stream}
-use Rattle.irig.specs.declared.stream.Finished.{Finished}
+use Rattle.std.specs.Prelude.{Some, None}
+use Rattle.wire.specs.declared.numbers.Answer.{Answer}
 use Rattle.irig.specs.declared.stream.RowTaken.{RowTaken}
 use Rattle.irig.specs.declared.search.Searched.{Searched}
 use Rattle.irig.specs.Reading.{read_frame}
-use Rattle.irig.specs.Streams.{searching, fresh_stream, lawful, next, row_taken, frame_ends, behind, one_by_one, take_row, first_held, searched}
+use Rattle.irig.specs.Streams.{searching, fresh_stream, lawful, next, Taking, row_taken, frame_ends, behind, one_by_one, take_row, taking, first_held, further, searched}
 use Rattle.irig.specs.Finding.{Found, before_second, frames_from, frames, later_by, after_all, taken_all, found_by, found_all}
-use Rattle.irig.proofs.search.Laws.{searched_more, searched_second, searched_none, searched_within}
-use Rattle.irig.proofs.stream.Laws.{take_18, take_lawful, held_short, rest_is, ends_whole, search_finds, search_ends, next_search}
+use Rattle.irig.proofs.search.Laws.{searched_more, searched_second, searched_none, Second, second_is}
+use Rattle.irig.proofs.stream.Laws.{take_18, take_lawful, held_short, rest_is, ends_whole, by_search, search_is, next_search}
 
 -- ELEMENTS ONE BY ONE
 
@@ -54,7 +55,7 @@ found_both (x ∷ xs) ys o s =
 
 -- WHAT A CALL TAKES, ONE BY ONE
 
-record Agrees (o : ℕ) (s : Stream) (row : List ℕ) (t : RowTaken) : Type 0 where
+record Agrees (o : ℕ) (s : Stream) (row : List ℕ) (t : Taking) : Type 0 where
   within : t.taken ≤ length row
   stream : t.stream ≡ after_each s (take t.taken row)
   found : found_by (o + t.taken) t.finished ≡ found_each o s (take t.taken row)
@@ -68,7 +69,7 @@ module _ (o : ℕ) (s : Stream) (e : ℕ) (es : List ℕ) where
         found = sym (append-nil (finishes o s e) ∙ ap (λ (t : Bool). pick t (record { first = o + 1 - 100; read = read_frame (next s e).elements } ∷ []) []) h);
       }
 
-  goes_on_lem : eqb (next s e).held 100 ≡ false → (t : RowTaken) → Agrees (o + 1) (next s e) es t → Agrees o s (e ∷ es) (behind 1 t)
+  goes_on_lem : eqb (next s e).held 100 ≡ false → (t : Taking) → Agrees (o + 1) (next s e) es t → Agrees o s (e ∷ es) (behind 1 t)
   goes_on_lem h t a =
       let n : 1 + t.taken ≡ suc t.taken = omega arith in
       let p : step s e ≡ next s e = ap (λ (b : Bool). pick b (searching (eqb e 2)) (next s e)) h in
@@ -95,26 +96,26 @@ one_agrees (e ∷ es) o s = by (eqb (next s e).held 100) refl (one_agrees es (o 
     by false h a = goes_on_lem o s e es h (one_by_one (next s e) es) a
 
 -- a record that is not lawful takes nothing
-none_agrees : (o : ℕ) (s : Stream) (row : List ℕ) (n : ℕ) → Agrees o s row (row_taken s n 0 Finished.Nothing)
-none_agrees o s row n = record { within = omega arith; stream = refl; found = refl }
+none_agrees : (o : ℕ) (s : Stream) (row : List ℕ) → Agrees o s row (row_taken s 0 None)
+none_agrees o s row = record { within = omega arith; stream = refl; found = refl }
 
-take_agrees : (o : ℕ) (s : Stream) (row : List ℕ) → Agrees o s row (take_row s row)
+take_agrees : (o : ℕ) (s : Stream) (row : List ℕ) → Agrees o s row (taking (take_row s row))
 take_agrees o s row = go (lawful s) refl
   where
-    go : (t : Bool) → lawful s ≡ t → Agrees o s row (take_row s row)
+    go : (t : Bool) → lawful s ≡ t → Agrees o s row (taking (take_row s row))
     go true h = rw (sym (take_lawful s row h)) (one_agrees row o s)
-    go false h = rw (sym (take_18 s row h)) (none_agrees o s row 18)
+    go false h = rw (sym (take_18 s row h)) (none_agrees o s row)
 
 -- a call takes no more than its row has
-pub taken_within : (s : Stream) (row : List ℕ) (t : RowTaken) → t ≡ take_row s row → t.taken ≤ length row
-taken_within s row t e = rw e (take_agrees 0 s row).within
+pub taken_within : (s : Stream) (row : List ℕ) (a : Answer Stream RowTaken) → a ≡ take_row s row → (taking a).taken ≤ length row
+taken_within s row a e = rw e (take_agrees 0 s row).within
 
 -- A RUN OF CALLS
 
 pub run_after : (rows : List (List ℕ)) (s : Stream) → after_all rows s ≡ after_each s (taken_all rows s)
 run_after [] s = refl
 run_after (row ∷ rows) s =
-    let t : RowTaken = take_row s row in
+    let t : Taking = taking (take_row s row) in
     run_after rows t.stream
     ∙ ap (λ (d : Stream). after_each d (taken_all rows t.stream)) (take_agrees 0 s row).stream
     ∙ sym (after_both (take t.taken row) (taken_all rows t.stream) s)
@@ -122,7 +123,7 @@ run_after (row ∷ rows) s =
 run_found : (rows : List (List ℕ)) (o : ℕ) (s : Stream) → found_all o rows s ≡ found_each o s (taken_all rows s)
 run_found [] o s = refl
 run_found (row ∷ rows) o s =
-    let t : RowTaken = take_row s row in
+    let t : Taking = taking (take_row s row) in
     let a = take_agrees o s row in
     let l : length (take t.taken row) ≡ t.taken = length-take-le t.taken row a.within in
     ap₂ ◌++◌ a.found (run_found rows (o + t.taken) t.stream)
@@ -145,31 +146,23 @@ unfolding before_second
 before_one a = refl
 
 -- where a search ends, behind an element a
-record Ends (a : ℕ) (es : List ℕ) (s : Searched) : Type 0 where
-  found : s.found ≡ true → (before_second (a ∷ es) ≡ s.taken) × (drop s.taken (a ∷ es) ≡ 2 ∷ drop s.taken es)
-  none : s.found ≡ false → (before_second (a ∷ es) ≡ suc (length es)) × (s.taken ≡ length es)
+abbrev Ends : ℕ → List ℕ → Searched → Type 0
+Ends a es (Searched.Found k) = (before_second (a ∷ es) ≡ k) × (drop k (a ∷ es) ≡ 2 ∷ drop k es)
+Ends a es (Searched.Over m) = before_second (a ∷ es) ≡ suc (length es)
 
 module _ (a c : ℕ) (es : List ℕ) where
-  ends_second : (eqb a 2 && eqb c 2) ≡ true → Ends a (c ∷ es) (record { taken = 1; marked = false; found = true })
-  ends_second h =
-      record {
-        found = λ f. (before_second_lem a c es h, ap (λ (x : ℕ). x ∷ es) (eqb-true c 2 (and_right (eqb a 2) (eqb c 2) h)));
-        none = λ f. clash f;
-      }
+  ends_second : (eqb a 2 && eqb c 2) ≡ true → Ends a (c ∷ es) (Searched.Found 1)
+  ends_second h = (before_second_lem a c es h, ap (λ (x : ℕ). x ∷ es) (eqb-true c 2 (and_right (eqb a 2) (eqb c 2) h)))
 
-  ends_more : (eqb a 2 && eqb c 2) ≡ false → (s : Searched) → Ends c es s → Ends a (c ∷ es) (record { taken = s.taken + 1; marked = s.marked; found = s.found })
-  ends_more h s e =
-      let n : suc s.taken ≡ s.taken + 1 = omega arith in
-      record {
-        found = λ f.
-            let q = e.found f in
-            (before_more a c es h ∙ ap suc q.0 ∙ n, ap (λ (k : ℕ). drop k (a ∷ (c ∷ es))) (sym n) ∙ q.1 ∙ ap (λ (k : ℕ). 2 ∷ drop k (c ∷ es)) n);
-        none = λ f. let q = e.none f in (before_more a c es h ∙ ap suc q.0, ap (λ (k : ℕ). k + 1) q.1 ∙ (let m : length es + 1 ≡ suc (length es) = omega arith in m));
-      }
+  ends_more : (eqb a 2 && eqb c 2) ≡ false → (s : Searched) → Ends c es s → Ends a (c ∷ es) (further 1 s)
+  ends_more h (Searched.Found k) e =
+      let n : suc k ≡ 1 + k = omega arith in
+      (before_more a c es h ∙ ap suc e.0 ∙ n, ap (λ (j : ℕ). drop j (a ∷ (c ∷ es))) (sym n) ∙ e.1 ∙ ap (λ (j : ℕ). 2 ∷ drop j (c ∷ es)) n)
+  ends_more h (Searched.Over m) e = before_more a c es h ∙ ap suc e
 
-search_is : (es : List ℕ) (a : ℕ) → Ends a es (searched (eqb a 2) es)
-search_is [] a = rw (searched_none (eqb a 2)) record { found = λ f. clash (sym f); none = λ f. (before_one a, refl) }
-search_is (c ∷ es) a = by (eqb a 2 && eqb c 2) refl (search_is es c)
+search_ends : (es : List ℕ) (a : ℕ) → Ends a es (searched (eqb a 2) es)
+search_ends [] a = rw (searched_none (eqb a 2)) (before_one a)
+search_ends (c ∷ es) a = by (eqb a 2 && eqb c 2) refl (search_ends es c)
   where
     by : (t : Bool) → (eqb a 2 && eqb c 2) ≡ t → Ends c es (searched (eqb c 2) es) → Ends a (c ∷ es) (searched (eqb a 2) (c ∷ es))
     by true h e = rw (searched_second (eqb a 2) c es h) (ends_second a c es h)
@@ -187,7 +180,7 @@ unfolding frames_from
 frames_one n o k es e l = simp (e, le-ltb (length es) (k + 100) l)
 
 -- what a call takes, and the rest
-after_call : (o : ℕ) (s : Stream) (es : List ℕ) (t : RowTaken) → one_by_one s es ≡ t
+after_call : (o : ℕ) (s : Stream) (es : List ℕ) (t : Taking) → one_by_one s es ≡ t
     → found_each o s es ≡ found_by (o + t.taken) t.finished ++ found_each (o + t.taken) t.stream (drop t.taken es)
 after_call o s es t e =
     let a : Agrees o s es t = rw (sym e) (one_agrees es o s) in
@@ -197,55 +190,56 @@ after_call o s es t e =
     ∙ ap (λ (d : Stream). found_by (o + t.taken) t.finished ++ found_each (o + t.taken) d (drop t.taken es)) (sym a.stream)
 
 -- a call that takes all and finishes nothing
-all_taken : (o : ℕ) (s : Stream) (es : List ℕ) (d : Stream) (n : ℕ) → one_by_one s es ≡ row_taken d 0 n Finished.Nothing → n ≡ length es → found_each o s es ≡ []
+all_taken : (o : ℕ) (s : Stream) (es : List ℕ) (d : Stream) (n : ℕ) → one_by_one s es ≡ row_taken d n None → n ≡ length es → found_each o s es ≡ []
 all_taken o s es d n e l =
-    after_call o s es (row_taken d 0 n Finished.Nothing) e ∙ ap (found_each (o + n) d) (ap (λ (k : ℕ). drop k es) l ∙ drop-length es)
+    after_call o s es (row_taken d n None) e ∙ ap (found_each (o + n) d) (ap (λ (k : ℕ). drop k es) l ∙ drop-length es)
 
 -- THE FRAMES THAT ARE FOUND BEHIND AN ELEMENT
 
 module _ (n : ℕ) (rec : (o a : ℕ) (es : List ℕ) → length es < n → found_each (o + 1) (searching (eqb a 2)) es ≡ frames_from n o (a ∷ es)) (o a : ℕ) (es : List ℕ) (l : length es < suc n) where
-  abbrev s : Searched
-  s = searched (eqb a 2) es
+  -- the search goes on behind them
+  none_found : (m : Bool) → searched (eqb a 2) es ≡ Searched.Over m → found_each (o + 1) (searching (eqb a 2)) es ≡ frames_from (suc n) o (a ∷ es)
+  none_found m f =
+      let q : before_second (a ∷ es) ≡ suc (length es) = subst (Ends a es) f (search_ends es a) in
+      all_taken (o + 1) (searching (eqb a 2)) es (searching m) (length es) (search_is es (eqb a 2) ∙ ap (by_search es) f) refl
+      ∙ sym (frames_none n o (a ∷ es) (rw q (omega arith)))
 
-  abbrev k : ℕ
-  k = s.taken
+  module _ (k : ℕ) (f : searched (eqb a 2) es ≡ Searched.Found k) where
+    abbrev rest : List ℕ
+    rest = drop k es
 
-  abbrev rest : List ℕ
-  rest = drop k es
+    ends_here : Ends a es (Searched.Found k)
+    ends_here = subst (Ends a es) f (search_ends es a)
 
-  none_found : s.found ≡ false → found_each (o + 1) (searching (eqb a 2)) es ≡ frames_from (suc n) o (a ∷ es)
-  none_found f =
-      let q = (search_is es a).none f in
-      all_taken (o + 1) (searching (eqb a 2)) es _ k (search_ends es (eqb a 2) f) q.1
-      ∙ sym (frames_none n o (a ∷ es) (rw q.0 (omega arith)))
-
-  module _ (f : s.found ≡ true) where
     place : before_second (a ∷ es) ≡ k
-    place = ((search_is es a).found f).0
+    place = ends_here.0
 
     element_0 : drop k (a ∷ es) ≡ 2 ∷ rest
-    element_0 = ((search_is es a).found f).1
+    element_0 = ends_here.1
+
+    within : k ≤ length es
+    within = let d : Second es (Searched.Found k) = subst (Second es) f (second_is es (eqb a 2)) in d.1
 
     left : length rest ≡ length es - k
     left = length-drop k es
 
     begins : one_by_one (searching (eqb a 2)) es ≡ behind k (one_by_one first_held rest)
-    begins = search_finds es (eqb a 2) f
+    begins = search_is es (eqb a 2) ∙ ap (by_search es) f
 
     too_short : length rest < 99 → found_each (o + 1) (searching (eqb a 2)) es ≡ frames_from (suc n) o (a ∷ es)
     too_short m =
-        let w = searched_within es (eqb a 2) in
+        let w = within in
         let q = left in
         all_taken (o + 1) (searching (eqb a 2)) es _ (k + length rest) (begins ∙ ap (behind k) (held_short rest (set (replicate 100 0) 0 2) 1 refl (λ z. omega arith) (omega arith))) (omega arith)
         ∙ sym (frames_none n o (a ∷ es) (rw place (omega arith)))
 
     whole_frame : 99 ≤ length rest → found_each (o + 1) (searching (eqb a 2)) es ≡ frames_from (suc n) o (a ∷ es)
     whole_frame m =
-        let w = searched_within es (eqb a 2) in
+        let w = within in
         let q = left in
         let x : ℕ = get_or rest 98 0 in
         let y : length (drop 99 rest) ≡ length rest - 99 = length-drop 99 rest in
-        after_call (o + 1) (searching (eqb a 2)) es (row_taken (searching (eqb x 2)) 0 (k + 99) (Finished.Frame (read_frame (2 ∷ rest)))) (begins ∙ ap (behind k) (ends_whole rest m))
+        after_call (o + 1) (searching (eqb a 2)) es (row_taken (searching (eqb x 2)) (k + 99) (Some (read_frame (2 ∷ rest)))) (begins ∙ ap (behind k) (ends_whole rest m))
         ∙ ap (λ (j : ℕ). record { first = j; read = read_frame (2 ∷ rest) } ∷ found_each (o + 1 + (k + 99)) (searching (eqb x 2)) (drop (k + 99) es)) (let z : o + 1 + (k + 99) - 100 ≡ o + k = omega arith in z)
         ∙ ap₂ (λ (j : ℕ) (xs : List ℕ). record { first = o + k; read = read_frame (2 ∷ rest) } ∷ found_each j (searching (eqb x 2)) xs) (let z : o + 1 + (k + 99) ≡ o + (k + 99) + 1 = omega arith in z) (sym (drop-drop 99 k es))
         ∙ ap (λ (fs : List Found). record { first = o + k; read = read_frame (2 ∷ rest) } ∷ fs) (rec (o + (k + 99)) x (drop 99 rest) (omega arith))
@@ -253,11 +247,11 @@ module _ (n : ℕ) (rec : (o a : ℕ) (es : List ℕ) → length es < n → foun
         ∙ sym (frames_one n o k (a ∷ es) place (omega arith))
 
   found_step : found_each (o + 1) (searching (eqb a 2)) es ≡ frames_from (suc n) o (a ∷ es)
-  found_step = by s.found refl
+  found_step = by (searched (eqb a 2) es) refl
     where
-      by : (t : Bool) → s.found ≡ t → found_each (o + 1) (searching (eqb a 2)) es ≡ frames_from (suc n) o (a ∷ es)
-      by true f = ⊎_elim (too_short f) (whole_frame f) (lt_or_le (length rest) 99)
-      by false f = none_found f
+      by : (s : Searched) → searched (eqb a 2) es ≡ s → found_each (o + 1) (searching (eqb a 2)) es ≡ frames_from (suc n) o (a ∷ es)
+      by (Searched.Found k) f = ⊎_elim (too_short k f) (whole_frame k f) (lt_or_le (length (drop k es)) 99)
+      by (Searched.Over m) f = none_found m f
 
 found_behind : (n o a : ℕ) (es : List ℕ) → length es < n → found_each (o + 1) (searching (eqb a 2)) es ≡ frames_from n o (a ∷ es)
 found_behind zero o a es l = absurd (omega arith)

@@ -9,12 +9,14 @@ use native.Mathlib.Omega.{arith}
 use lib.Dec.{eqb}
 use lib.ListN.{length, take, drop, length-drop, take-append-drop}
 use Rattle.wire.specs.Digits.{pick}
-use Rattle.wire.specs.declared.words.TimeRead.{TimeRead}
+use Rattle.wire.specs.declared.numbers.Refusal.{Refusal}
+use Rattle.wire.specs.declared.words.Moment.{Moment}
 use Rattle.irig.specs.declared.stream.Stream.{Stream}
-use Rattle.irig.specs.declared.stream.Finished.{Finished}
+use Rattle.std.specs.Prelude.{Option, Result, Some, None}
+use Rattle.wire.specs.declared.numbers.Answer.{Answer}
 use Rattle.irig.specs.declared.stream.RowTaken.{RowTaken}
 use Rattle.irig.specs.Reading.{read_frame}
-use Rattle.irig.specs.Streams.{fresh_stream, lawful, next, frame_ends, behind, one_by_one, take_row}
+use Rattle.irig.specs.Streams.{fresh_stream, lawful, next, frame_ends, behind, one_by_one, take_row, taking}
 use Rattle.irig.specs.Finding.{frames, after_all, taken_all, found_by, found_all, handed, in_parts, joined}
 use Rattle.irig.proofs.stream.Laws.{take_lawful}
 use Rattle.irig.proofs.Finding.{run_finds}
@@ -22,8 +24,8 @@ use Rattle.irig.proofs.Reached.{Sound, fresh_sound, keeps_all}
 
 -- WHAT A CALL TAKES
 
-frame_is_something : (t : TimeRead) → ◌≡◌ {A = Finished} (Finished.Frame t) Finished.Nothing → ⊥
-frame_is_something t e = let q : ◌≡◌ {A = ℕ} 1 0 = ap (λ (f : Finished). length (found_by 0 f)) e in omega arith
+frame_is_something : (t : Result Moment Refusal) → ◌≡◌ {A = Option (Result Moment Refusal)} (Some t) None → ⊥
+frame_is_something t e = let q : ◌≡◌ {A = ℕ} 1 0 = ap (λ (f : Option (Result Moment Refusal)). length (found_by 0 f)) e in omega arith
 
 some : (s : Stream) (e : ℕ) (es : List ℕ) → 1 ≤ (one_by_one s (e ∷ es)).taken
 unfolding one_by_one
@@ -33,32 +35,32 @@ some s e es = by (eqb (next s e).held 100)
     by true = omega arith
     by false = omega arith
 
-takes_rest : (row : List ℕ) (s : Stream) → (one_by_one s row).finished ≡ Finished.Nothing → (one_by_one s row).taken ≡ length row
+takes_rest : (row : List ℕ) (s : Stream) → (one_by_one s row).finished ≡ None → (one_by_one s row).taken ≡ length row
 unfolding one_by_one
 takes_rest [] s f = refl
 takes_rest (e ∷ es) s f = by (eqb (next s e).held 100) f (takes_rest es (next s e))
   where
-    by : (t : Bool) → (pick t (frame_ends (next s e) e) (behind 1 (one_by_one (next s e) es))).finished ≡ Finished.Nothing
-        → ((one_by_one (next s e) es).finished ≡ Finished.Nothing → (one_by_one (next s e) es).taken ≡ length es)
+    by : (t : Bool) → (pick t (frame_ends (next s e) e) (behind 1 (one_by_one (next s e) es))).finished ≡ None
+        → ((one_by_one (next s e) es).finished ≡ None → (one_by_one (next s e) es).taken ≡ length es)
         → (pick t (frame_ends (next s e) e) (behind 1 (one_by_one (next s e) es))).taken ≡ suc (length es)
     by true g r = absurd (frame_is_something (read_frame (next s e).elements) g)
     by false g r = let q = r g in omega arith
 
 -- a call on a lawful record takes at least one element of a row that has one
-pub takes_some : (s : Stream) (e : ℕ) (es : List ℕ) → lawful s ≡ true → 1 ≤ (take_row s (e ∷ es)).taken
+pub takes_some : (s : Stream) (e : ℕ) (es : List ℕ) → lawful s ≡ true → 1 ≤ (taking (take_row s (e ∷ es))).taken
 takes_some s e es h = rw (sym (take_lawful s (e ∷ es) h)) (some s e es)
 
 -- and all of it, if it finishes no frame
-pub takes_all : (s : Stream) (row : List ℕ) → lawful s ≡ true → (take_row s row).finished ≡ Finished.Nothing → (take_row s row).taken ≡ length row
-takes_all s row h f = ap (λ (t : RowTaken). t.taken) (sym (take_lawful s row h)) ∙ takes_rest row s (ap (λ (t : RowTaken). t.finished) (take_lawful s row h) ∙ f)
+pub takes_all : (s : Stream) (row : List ℕ) → lawful s ≡ true → (taking (take_row s row)).finished ≡ None → (taking (take_row s row)).taken ≡ length row
+takes_all s row h f = ap (λ (a : Answer Stream RowTaken). (taking a).taken) (sym (take_lawful s row h)) ∙ takes_rest row s (ap (λ (a : Answer Stream RowTaken). (taking a).finished) (take_lawful s row h) ∙ f)
 
 -- WHAT CALLS TAKE TOGETHER
 
 take_both : (rows rows' : List (List ℕ)) (s : Stream) → taken_all (rows ++ rows') s ≡ taken_all rows s ++ taken_all rows' (after_all rows s)
 take_both [] rows' s = refl
 take_both (row ∷ rows) rows' s =
-    ap (λ (l : List ℕ). take (take_row s row).taken row ++ l) (take_both rows rows' (take_row s row).stream)
-    ∙ sym (append_assoc (take (take_row s row).taken row) (taken_all rows (take_row s row).stream) (taken_all rows' (after_all rows (take_row s row).stream)))
+    ap (λ (l : List ℕ). take (taking (take_row s row)).taken row ++ l) (take_both rows rows' (take_row s row).after)
+    ∙ sym (append_assoc (take (taking (take_row s row)).taken row) (taken_all rows (take_row s row).after) (taken_all rows' (after_all rows (take_row s row).after)))
 
 -- a part is taken whole
 handed_taken : (n : ℕ) (part : List ℕ) (s : Stream) → length part ≤ n → Sound s → taken_all (handed n s part) s ≡ part
@@ -67,10 +69,10 @@ handed_taken zero [] s l k = refl
 handed_taken zero (e ∷ es) s l k = absurd (omega arith)
 handed_taken (suc n) [] s l k = refl
 handed_taken (suc n) (e ∷ es) s l k =
-    let t : ℕ = (take_row s (e ∷ es)).taken in
+    let t : ℕ = (taking (take_row s (e ∷ es))).taken in
     let q : length (drop t (e ∷ es)) ≡ suc (length es) - t = length-drop t (e ∷ es) in
     let m = takes_some s e es k.is_lawful in
-    ap (λ (r : List ℕ). take t (e ∷ es) ++ r) (handed_taken n (drop t (e ∷ es)) (take_row s (e ∷ es)).stream (omega arith) (keeps_all ((e ∷ es) ∷ []) s k))
+    ap (λ (r : List ℕ). take t (e ∷ es) ++ r) (handed_taken n (drop t (e ∷ es)) (take_row s (e ∷ es)).after (omega arith) (keeps_all ((e ∷ es) ∷ []) s k))
     ∙ take-append-drop t (e ∷ es)
 
 parts_taken : (parts : List (List ℕ)) (s : Stream) → Sound s → taken_all (in_parts parts s) s ≡ joined parts

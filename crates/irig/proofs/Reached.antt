@@ -13,8 +13,9 @@ use borrow.Author.Tests.{lt-ltb, eqb-true, eqb-false, eq-eqb, ne_eqb}
 use Rattle.wire.specs.Digits.{pick, below}
 use Rattle.wire.proofs.digits.Laws.{below_take, below_drop, zeros, zeros_below, lt_or_le}
 use Rattle.irig.specs.declared.stream.Stream.{Stream}
+use Rattle.wire.specs.declared.numbers.Answer.{Answer}
 use Rattle.irig.specs.declared.stream.RowTaken.{RowTaken}
-use Rattle.irig.specs.Streams.{searching, fresh_stream, lawful, behind, one_by_one, take_row}
+use Rattle.irig.specs.Streams.{searching, fresh_stream, lawful, Taking, behind, one_by_one, take_row}
 use Rattle.irig.specs.Finding.{after_all, taken_all, of_bytes, Left, way}
 use Rattle.irig.proofs.stream.Laws.{begun, next_held, next_search, next_second, step_search, step_second, held_short, take_lawful, Begun, lawful_begun, lawful_searching}
 use Rattle.irig.proofs.Finding.{step, after_each, run_after}
@@ -97,13 +98,13 @@ fresh_sound = sound_searching false
 
 -- EVERY LAWFUL RECORD IS LEFT BY SOME CALLS
 
-after_lawful : (s : Stream) (row : List ℕ) → lawful s ≡ true → (take_row s row).stream ≡ (one_by_one s row).stream
-after_lawful s row h = ap (λ (t : RowTaken). t.stream) (sym (take_lawful s row h))
+after_lawful : (s : Stream) (row : List ℕ) → lawful s ≡ true → (take_row s row).after ≡ (one_by_one s row).stream
+after_lawful s row h = ap (λ (a : Answer Stream RowTaken). a.after) (sym (take_lawful s row h))
 
 -- a marker leaves the mark
-marker_leaves : (take_row fresh_stream (2 ∷ [])).stream ≡ searching true
+marker_leaves : (take_row fresh_stream (2 ∷ [])).after ≡ searching true
 unfolding one_by_one
-marker_leaves = after_lawful fresh_stream (2 ∷ []) (searching_lawful false) ∙ ap (λ (t : RowTaken). t.stream) (step_search false 2 [] refl)
+marker_leaves = after_lawful fresh_stream (2 ∷ []) (searching_lawful false) ∙ ap (λ (t : Taking). t.stream) (step_search false 2 [] refl)
 
 drop_zeros : (n m : ℕ) → drop {A = ℕ} n (replicate m 0) ≡ replicate (m - n) 0
 drop_zeros zero m = ap (λ (k : ℕ). replicate k 0) (let q : m ≡ m - 0 = omega arith in q)
@@ -130,16 +131,16 @@ module _ (x : ℕ) (xs : List ℕ) (h : ℕ) (l : length (x ∷ xs) ≡ 100) (b 
       ap₂ (λ (us ws : List ℕ). (2 ∷ us) ++ ws) (take-length ys) (ap (λ (n : ℕ). drop {A = ℕ} n (set (replicate 100 0) 0 2)) count_is ∙ drop_zeros h 99 ∙ sym tail_zeros)
       ∙ ap₂ (λ (y : ℕ) (zs : List ℕ). y ∷ zs) (sym b.first) (take-append-drop h xs)
 
-  begun_left : (take_row fresh_stream (2 ∷ take (suc h) (x ∷ xs))).stream ≡ begun (x ∷ xs) (suc h)
+  begun_left : (take_row fresh_stream (2 ∷ take (suc h) (x ∷ xs))).after ≡ begun (x ∷ xs) (suc h)
   begun_left =
       after_lawful fresh_stream (2 ∷ x ∷ ys) (searching_lawful false)
-      ∙ ap (λ (t : RowTaken). t.stream)
+      ∙ ap (λ (t : Taking). t.stream)
       (step_search false 2 (x ∷ ys) refl
       ∙ ap (behind 1) (step_second true x ys (eq-eqb x 2 b.first))
-      ∙ ap (λ (t : RowTaken). behind 1 (behind 1 t)) (held_short ys (set (replicate 100 0) 0 2) 1 refl (λ q. omega arith) (let f = few in let g = b.few in omega arith)))
+      ∙ ap (λ (t : Taking). behind 1 (behind 1 t)) (held_short ys (set (replicate 100 0) 0 2) 1 refl (λ q. omega arith) (let f = few in let g = b.few in omega arith)))
       ∙ ap₂ begun held_is count_is
 
-begun_way : (xs : List ℕ) (h : ℕ) → length xs ≡ 100 → Begun xs h → (take_row fresh_stream (2 ∷ take h xs)).stream ≡ begun xs h
+begun_way : (xs : List ℕ) (h : ℕ) → length xs ≡ 100 → Begun xs h → (take_row fresh_stream (2 ∷ take h xs)).after ≡ begun xs h
 begun_way [] h l b = absurd (omega arith)
 begun_way (x ∷ xs) zero l b = absurd (b.some refl)
 begun_way (x ∷ xs) (suc h) l b = begun_left x xs h l b
@@ -181,5 +182,5 @@ lawful_exactly_if s l b = (
 )
 
 -- and every call leaves a lawful one lawful
-pub keeps : (s : Stream) (row : List ℕ) → lawful s ≡ true → length s.elements ≡ 100 → (lawful (take_row s row).stream ≡ true) × (length (take_row s row).stream.elements ≡ 100)
+pub keeps : (s : Stream) (row : List ℕ) → lawful s ≡ true → length s.elements ≡ 100 → (lawful (take_row s row).after ≡ true) × (length (take_row s row).after.elements ≡ 100)
 keeps s row h l = let k = keeps_all (row ∷ []) s (record { is_lawful = h; places = l }) in (k.is_lawful, k.places)

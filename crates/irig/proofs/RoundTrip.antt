@@ -11,10 +11,12 @@ use lib.Dec.{ltb, eqb, lit<}
 use lib.ListN.{length, get_or, take, drop, length-append, take-append-drop, get_or-append}
 use lib.Seq.{ext_get_or, get_or-take, length-take-le, take_at}
 use borrow.Author.Tests.{ltb-false, eqb-true, lt-ltb, le-ltb, eq-eqb, not-false}
-use Rattle.wire.specs.Digits.{pick, digits}
+use Rattle.wire.specs.Digits.{digits}
 use Rattle.wire.specs.Time.{whole_seconds, without_fraction}
-use Rattle.wire.specs.Words.{time_digits, writable, decimal, day_in, tick_in, time_read}
-use Rattle.wire.specs.declared.words.TimeRead.{TimeRead}
+use Rattle.wire.specs.Words.{time_digits, writable, decimal, day_in, tick_in, moment}
+use Rattle.std.specs.Prelude.{Ok}
+use Rattle.wire.specs.Numbers.{answered, number_of}
+use Rattle.wire.specs.declared.words.Moment.{Moment}
 use Rattle.wire.proofs.numbers.Laws.{given_zero, quiet_first}
 use Rattle.wire.proofs.time.Laws.{hour_whole, minute_whole, second_whole, fraction_whole}
 use Rattle.wire.proofs.words.Laws.{in_ranges, writable_day, writable_tick, time_digits_lem}
@@ -107,11 +109,11 @@ module _ (day tick : ℕ) (w : writable day tick ≡ true) (rest : List ℕ) whe
       )
 
   -- what is written reads as the day and the tick without its fraction
-  pub read_written : read_frame row ≡ time_read 0 day (without_fraction tick)
+  pub read_written : read_frame row ≡ Ok (moment day (without_fraction tick))
   unfolding read_frame
   read_written =
-      ap (λ (k : ℕ). pick (eqb k 0) (time_read 0 (day_in (digits_in row)) (tick_in (digits_in row))) (time_read k 0 0)) not_refused
-      ∙ ap₂ (time_read 0) (ap day_in digits_back ∙ day_back day (without_fraction tick) whole_writable) tick_is
+      ap (λ (k : ℕ). answered k (moment (day_in (digits_in row)) (tick_in (digits_in row)))) not_refused
+      ∙ ap₂ (λ (d t : ℕ). Ok (moment d t)) (ap day_in digits_back ∙ day_back day (without_fraction tick) whole_writable) tick_is
 
 -- READ, THEN WRITTEN
 
@@ -146,7 +148,7 @@ twenty : (row : List ℕ) → length (digits_in row) ≡ 20
 unfolding digits_of
 twenty row = refl
 
-module _ (row : List ℕ) (n : (read_frame row).number ≡ 0) where
+module _ (row : List ℕ) (m : Moment) (n : read_frame row ≡ Ok m) where
   abbrev ds : List ℕ
   ds = digits_in row
 
@@ -157,14 +159,17 @@ module _ (row : List ℕ) (n : (read_frame row).number ≡ 0) where
   tick = tick_in ds
 
   refusal : read_refusal row ≡ 0
-  refusal = sym (read_number_lem row) ∙ n
+  refusal = sym (read_number_lem row) ∙ ap number_of n
 
   was : Passed row
   was = passed row refusal
 
-  read_as_lem : read_frame row ≡ time_read 0 day tick
+  read_again : read_frame row ≡ Ok (moment day tick)
   unfolding read_frame
-  read_as_lem = ap (λ (k : ℕ). pick (eqb k 0) (time_read 0 day tick) (time_read k 0 0)) refusal
+  read_again = ap (λ (k : ℕ). answered k (moment day tick)) refusal
+
+  read_as_lem : m ≡ moment day tick
+  read_as_lem = cc (n, read_again)
 
   again : time_digits day tick ≡ ds
   again = digits_again ds (twenty row) was.decimals was.range
@@ -215,34 +220,31 @@ module _ (row : List ℕ) (n : (read_frame row).number ≡ 0) where
       (λ j l. let k : j < 100 = rw (hundred_of (element_of (field_of day tick))) at l in at_place (element_of (field_of day tick)) j k ∙ element_again j k ∙ sym (get_or-take 100 row j 0 k))
 
   -- a row that reads begins with the frame of what it reads as
-  pub written_read : frame_of (read_frame row).day (read_frame row).tick.ticks ≡ take 100 row
-  written_read = ap (λ (r : TimeRead). frame_of r.day r.tick.ticks) read_as_lem ∙ frame_is
+  pub written_read : frame_of m.day m.tick.ticks ≡ take 100 row
+  written_read = ap (λ (r : Moment). frame_of r.day r.tick.ticks) read_as_lem ∙ frame_is
 
   -- it has a hundred places
   pub read_long : 100 ≤ length row
   read_long = was.long
 
   -- what it reads as is within the ranges of time words, and has no fraction
-  pub read_writable : writable (read_frame row).day (read_frame row).tick.ticks ≡ true
-  read_writable = ap (λ (r : TimeRead). writable r.day r.tick.ticks) read_as_lem ∙ again_writable ds (twenty row) was.decimals was.range
+  pub read_writable : writable m.day m.tick.ticks ≡ true
+  read_writable = ap (λ (r : Moment). writable r.day r.tick.ticks) read_as_lem ∙ again_writable ds (twenty row) was.decimals was.range
 
-  pub read_whole : (read_frame row).tick.ticks ≡ without_fraction (read_frame row).tick.ticks
-  read_whole = ap (λ (r : TimeRead). r.tick.ticks) read_as_lem ∙ no_fraction row ∙ ap (λ (r : TimeRead). without_fraction r.tick.ticks) (sym read_as_lem)
+  pub read_whole : m.tick.ticks ≡ without_fraction m.tick.ticks
+  read_whole = ap (λ (r : Moment). r.tick.ticks) read_as_lem ∙ no_fraction row ∙ ap (λ (r : Moment). without_fraction r.tick.ticks) (sym read_as_lem)
 
 -- NO SECOND SPELLING
 
 -- two rows that read as the same time begin with the same hundred elements
-pub one_spelling : (a b : List ℕ) → (read_frame a).number ≡ 0 → (read_frame b).number ≡ 0 → read_frame a ≡ read_frame b → take 100 a ≡ take 100 b
-one_spelling a b n m e =
-    sym (written_read a n) ∙ ap (λ (r : TimeRead). frame_of r.day r.tick.ticks) e ∙ written_read b m
+pub one_spelling : (a b : List ℕ) (m : Moment) → read_frame a ≡ Ok m → read_frame b ≡ Ok m → take 100 a ≡ take 100 b
+one_spelling a b m e f = sym (written_read a m e) ∙ written_read b m f
 
 -- the fraction is not written
 frame_whole : (day tick : ℕ) → writable day tick ≡ true → frame_of day tick ≡ frame_of day (without_fraction tick)
 frame_whole day tick w =
-    let r = read_written day tick w [] in
     sym
-    (ap (λ (t : TimeRead). frame_of t.day t.tick.ticks) (sym r)
-    ∙ written_read (frame_of day tick ++ []) (ap (λ (t : TimeRead). t.number) r)
+    (written_read (frame_of day tick ++ []) (moment day (without_fraction tick)) (read_written day tick w [])
     ∙ take_at (frame_of day tick) [] 100 (frame_hundred day tick))
 
 -- THE CALLS
@@ -263,12 +265,12 @@ module _ (c : Card) (row : List ℕ) where
   row_is h l = simp (writes h l)
 
   -- what is written for a lawful card reads as its day, and its tick without the fraction
-  pub read_back : lawful c ≡ true → 100 ≤ length row → read_frame (row_written c row) ≡ time_read 0 card_day (without_fraction card_tick)
+  pub read_back : lawful c ≡ true → 100 ≤ length row → read_frame (row_written c row) ≡ Ok (moment card_day (without_fraction card_tick))
   read_back h l = ap read_frame (row_is h l) ∙ read_written card_day card_tick (time_writable c h) (drop 100 row)
 
   -- a row that reads is as it was when a frame is written into it for a card of that day and second
-  pub write_back : lawful c ≡ true → (read_frame row).number ≡ 0 → card_day ≡ (read_frame row).day → without_fraction card_tick ≡ (read_frame row).tick.ticks → row_written c row ≡ row
-  write_back h n d t =
-      row_is h (was row n).long
-      ∙ ap (λ (f : List ℕ). f ++ drop 100 row) (frame_whole card_day card_tick (time_writable c h) ∙ ap₂ frame_of d t ∙ written_read row n)
+  pub write_back : lawful c ≡ true → (m : Moment) → read_frame row ≡ Ok m → card_day ≡ m.day → without_fraction card_tick ≡ m.tick.ticks → row_written c row ≡ row
+  write_back h m n d t =
+      row_is h (was row m n).long
+      ∙ ap (λ (f : List ℕ). f ++ drop 100 row) (frame_whole card_day card_tick (time_writable c h) ∙ ap₂ frame_of d t ∙ written_read row m n)
       ∙ take-append-drop 100 row

@@ -1,16 +1,16 @@
 -- The frames of a whole list of elements, said without the record and its calls; and runs of calls, which find just these.
-use Rattle.std.specs.Prelude.{ℕ, zero, suc, ◌+◌, ◌-◌, ◌≡◌, Bool, true, ◌&&◌, List, [], ◌∷◌, ◌++◌, length, take, drop, ltb, eqb}
+use Rattle.std.specs.Prelude.{ℕ, zero, suc, ◌+◌, ◌-◌, ◌≡◌, Bool, true, ◌&&◌, List, [], ◌∷◌, ◌++◌, length, take, drop, ltb, eqb, Option, Result, Some, None}
 use Rattle.wire.specs.Digits.{pick, below}
-use Rattle.wire.specs.declared.words.TimeRead.{TimeRead}
+use Rattle.wire.specs.declared.numbers.Refusal.{Refusal}
+use Rattle.wire.specs.declared.words.Moment.{Moment}
 use Rattle.irig.specs.declared.stream.Stream.{Stream}
-use Rattle.irig.specs.declared.stream.Finished.{Finished}
 use Rattle.irig.specs.Reading.{read_frame}
-use Rattle.irig.specs.Streams.{fresh_stream, take_row}
+use Rattle.irig.specs.Streams.{fresh_stream, take_row, taking}
 
 -- a frame that was found: the number of its element 0, counted from 0 over the whole list, and what it reads as
 pub record Found : Type 0 where
   pub first : ℕ
-  pub read : TimeRead
+  pub read : Result Moment Refusal
 
 -- THE FRAMES OF A WHOLE LIST
 
@@ -42,30 +42,30 @@ later_by n (f ∷ fs) = record { first = n + f.first; read = f.read } ∷ later_
 -- the record afterwards
 abbrev pub after_all : List (List ℕ) → Stream → Stream
 after_all [] s = s
-after_all (row ∷ rows) s = after_all rows (take_row s row).stream
+after_all (row ∷ rows) s = after_all rows (take_row s row).after
 
 -- the elements that were taken, in their order
 abbrev pub taken_all : List (List ℕ) → Stream → List ℕ
 taken_all [] s = []
-taken_all (row ∷ rows) s = take (take_row s row).taken row ++ taken_all rows (take_row s row).stream
+taken_all (row ∷ rows) s = take (taking (take_row s row)).taken row ++ taken_all rows (take_row s row).after
 
 -- a finished frame is the last hundred of the n elements that have been taken since the record was fresh
-abbrev pub found_by : ℕ → Finished → List Found
-found_by n Finished.Nothing = []
-found_by n (Finished.Frame time) = record { first = n - 100; read = time } ∷ []
+abbrev pub found_by : ℕ → Option (Result Moment Refusal) → List Found
+found_by n None = []
+found_by n (Some time) = record { first = n - 100; read = time } ∷ []
 
 -- the frames that were finished, o elements having been taken before
 abbrev pub found_all : ℕ → List (List ℕ) → Stream → List Found
 found_all o [] s = []
 found_all o (row ∷ rows) s =
-    found_by (o + (take_row s row).taken) (take_row s row).finished ++ found_all (o + (take_row s row).taken) rows (take_row s row).stream
+    found_by (o + (taking (take_row s row)).taken) (taking (take_row s row)).finished ++ found_all (o + (taking (take_row s row)).taken) rows (take_row s row).after
 
 -- A STREAM IN PARTS: each part is handed over again from behind what was taken of it, until nothing of it is left; with at most as many calls as the part has elements
 
 unfoldable pub handed : ℕ → Stream → List ℕ → List (List ℕ)
 handed zero s part = []
 handed (suc most) s [] = []
-handed (suc most) s (e ∷ es) = (e ∷ es) ∷ handed most (take_row s (e ∷ es)).stream (drop (take_row s (e ∷ es)).taken (e ∷ es))
+handed (suc most) s (e ∷ es) = (e ∷ es) ∷ handed most (take_row s (e ∷ es)).after (drop (taking (take_row s (e ∷ es))).taken (e ∷ es))
 
 unfoldable pub in_parts : List (List ℕ) → Stream → List (List ℕ)
 in_parts [] s = []

@@ -1,11 +1,11 @@
 -- Reading a frame: the first hundred elements of a row as a day and a tick of day. What stands behind them is not looked at.
-use Rattle.std.specs.Prelude.{ℕ, ◌+◌, ◌*◌, ◌/◌, ◌%◌, ◌^◌, Bool, true, not, List, [], ◌∷◌, length, get_or, replicate, ltb, eqb}
+use Rattle.std.specs.Prelude.{ℕ, ◌+◌, ◌*◌, ◌/◌, ◌%◌, ◌^◌, Bool, true, not, List, [], ◌∷◌, length, get_or, replicate, ltb, eqb, Result, Option, Some, None}
 use Rattle.wire.specs.Digits.{pick}
-use Rattle.wire.specs.Numbers.{Line, ◌if◌, given}
+use Rattle.wire.specs.Numbers.{Line, ◌if◌, given, answered, given_or}
+use Rattle.wire.specs.declared.numbers.Refusal.{Refusal}
 use Rattle.wire.specs.Time.{whole_seconds}
-use Rattle.wire.specs.Words.{decimal, in_range, day_in, hour_in, minute_in, second_in, tick_in, time_read}
-use Rattle.wire.specs.declared.words.TimeRead.{TimeRead}
-use Rattle.irig.specs.declared.reading.Summed.{Summed}
+use Rattle.wire.specs.Words.{decimal, in_range, day_in, hour_in, minute_in, second_in, tick_in, moment}
+use Rattle.wire.specs.declared.words.Moment.{Moment}
 use Rattle.irig.specs.Table.{Field, Element, field_number, at, sum_to, all_to, field_shift}
 
 -- a marker where the table has one, and 0 or 1 everywhere else
@@ -69,9 +69,13 @@ read_lines row =
 unfoldable pub read_refusal : List ℕ → ℕ
 read_refusal row = given (read_lines row)
 
--- day and tick of day, fraction 0; zeros beside a refusal
-unfoldable pub read_frame : List ℕ → TimeRead
-read_frame row = pick (eqb (read_refusal row) 0) (time_read 0 (day_in (digits_in row)) (tick_in (digits_in row))) (time_read (read_refusal row) 0 0)
+-- day and tick of day, fraction 0
+unfoldable pub read_frame : List ℕ → Result Moment Refusal
+read_frame row = answered (read_refusal row) (moment (day_in (digits_in row)) (tick_in (digits_in row)))
+
+-- the day and the tick that stand beside its number: day 0 and tick 0 beside a refusal
+abbrev pub frame_moment : List ℕ → Moment
+frame_moment row = given_or (moment 0 0) (read_frame row)
 
 -- WITHIN THE CRATE
 
@@ -84,9 +88,9 @@ weighed (Element.bit f i) e = e * 2 ^ (field_shift f + i)
 unfoldable pub weighed_to : List ℕ → ℕ → ℕ
 weighed_to row n = sum_to n (λ (j : ℕ). weighed (at j) (get_or row j 0))
 
--- one pass over the elements: whether all fit, and then the number
-unfoldable pub scanned : List ℕ → Summed
-scanned row = record { fits = all_fit row; number = pick (all_fit row) (weighed_to row 100) 0 }
+-- one pass over the elements: the number, if all fit
+unfoldable pub scanned : List ℕ → Option ℕ
+scanned row = pick (all_fit row) (Some (weighed_to row 100)) None
 
 -- the words of the digits that such a number holds
 unfoldable pub words_in : ℕ → List ℕ

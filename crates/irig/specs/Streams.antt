@@ -1,10 +1,12 @@
 -- Frames in a stream that arrives in rows cut anywhere. The second of two markers in a row is element 0; it and the next 99 are one frame, whatever they hold; then the
 -- search goes on from element 99, as the first of a possible two.
-use Rattle.std.specs.Prelude.{ℕ, ◌+◌, Bool, true, false, ◌&&◌, not, List, [], ◌∷◌, get_or, drop, set, replicate, ltb, eqb}
+use Rattle.std.specs.Prelude.{ℕ, ◌+◌, Bool, false, ◌&&◌, not, List, [], ◌∷◌, get_or, drop, set, replicate, ltb, eqb, Option, Result, Some, None, Ok}
 use Rattle.wire.specs.Digits.{pick, below}
-use Rattle.wire.specs.Numbers.{Line, ◌if◌, given}
+use Rattle.wire.specs.Numbers.{Line, ◌if◌, granted, given_or}
+use Rattle.wire.specs.declared.numbers.Answer.{Answer}
+use Rattle.wire.specs.declared.numbers.Refusal.{Refusal}
+use Rattle.wire.specs.declared.words.Moment.{Moment}
 use Rattle.irig.specs.declared.stream.Stream.{Stream}
-use Rattle.irig.specs.declared.stream.Finished.{Finished}
 use Rattle.irig.specs.declared.stream.RowTaken.{RowTaken}
 use Rattle.irig.specs.declared.search.Searched.{Searched}
 use Rattle.irig.specs.Reading.{read_frame}
@@ -42,25 +44,38 @@ next s e = pick (eqb s.held 0 && not (s.marked && eqb e 2)) (searching (eqb e 2)
 abbrev pub take_lines : Stream → List Line
 take_lines s = 18 if not (lawful s) ∷ []
 
-abbrev pub row_taken : Stream → ℕ → ℕ → Finished → RowTaken
-row_taken s number taken finished = record { stream = s; number = number; taken = taken; finished = finished }
+-- what comes of taking elements: the record afterwards, how many were taken, and what the frame that they finished reads as
+pub record Taking : Type 0 where
+  pub stream : Stream
+  pub taken : ℕ
+  pub finished : Option (Result Moment Refusal)
+
+abbrev pub row_taken : Stream → ℕ → Option (Result Moment Refusal) → Taking
+row_taken s taken finished = record { stream = s; taken = taken; finished = finished }
 
 -- a hundred are held, e the last of them: the frame is finished, and the search goes on from e
-abbrev pub frame_ends : Stream → ℕ → RowTaken
-frame_ends s e = row_taken (searching (eqb e 2)) 0 1 (Finished.Frame (read_frame s.elements))
+abbrev pub frame_ends : Stream → ℕ → Taking
+frame_ends s e = row_taken (searching (eqb e 2)) 1 (Some (read_frame s.elements))
 
 -- with n more elements taken before
-abbrev pub behind : ℕ → RowTaken → RowTaken
-behind n t = row_taken t.stream t.number (n + t.taken) t.finished
+abbrev pub behind : ℕ → Taking → Taking
+behind n t = row_taken t.stream (n + t.taken) t.finished
 
 -- the elements of a row one by one, up to and including the last of a frame
-unfoldable pub one_by_one : Stream → List ℕ → RowTaken
-one_by_one s [] = row_taken s 0 0 Finished.Nothing
+unfoldable pub one_by_one : Stream → List ℕ → Taking
+one_by_one s [] = row_taken s 0 None
 one_by_one s (e ∷ es) = pick (eqb (next s e).held 100) (frame_ends (next s e) e) (behind 1 (one_by_one (next s e) es))
 
--- beside a refusal nothing is taken
-unfoldable pub take_row : Stream → List ℕ → RowTaken
-take_row s row = pick (eqb (given (take_lines s)) 0) (one_by_one s row) (row_taken s (given (take_lines s)) 0 Finished.Nothing)
+-- beside a refusal the record is as it was
+unfoldable pub take_row : Stream → List ℕ → Answer Stream RowTaken
+take_row s row = granted (take_lines s) s (one_by_one s row).stream (record { taken = (one_by_one s row).taken; finished = (one_by_one s row).finished })
+
+-- what comes of a call: beside a refusal nothing is taken, and nothing finished
+abbrev pub none_taken : RowTaken
+none_taken = record { taken = 0; finished = None }
+
+abbrev pub taking : Answer Stream RowTaken → Taking
+taking a = row_taken a.after (given_or none_taken a.outcome).taken (given_or none_taken a.outcome).finished
 
 -- WITHIN THE CRATE
 
@@ -68,9 +83,16 @@ take_row s row = pick (eqb (given (take_lines s)) 0) (one_by_one s row) (row_tak
 abbrev pub first_held : Stream
 first_held = record { elements = set (replicate 100 0) 0 2; held = 1; marked = false }
 
--- the search in a row: how many elements it takes, whether it ends with the second of two markers, and, if not, whether the last was a marker
+-- the answer of a call that was done
+abbrev pub done : Taking → Answer Stream RowTaken
+done t = record { after = t.stream; outcome = Ok (record { taken = t.taken; finished = t.finished }) }
+
+-- what a search comes to, if n elements stand before
+abbrev pub further : ℕ → Searched → Searched
+further n (Searched.Found k) = Searched.Found (n + k)
+further n (Searched.Over marked) = Searched.Over marked
+
+-- the search in a row: behind how many elements it finds the second of two markers; or, if it finds none, whether the last is a marker
 unfoldable pub searched : Bool → List ℕ → Searched
-searched marked [] = record { taken = 0; marked = marked; found = false }
-searched marked (e ∷ es) =
-    pick (marked && eqb e 2) (record { taken = 1; marked = false; found = true })
-    (record { taken = (searched (eqb e 2) es).taken + 1; marked = (searched (eqb e 2) es).marked; found = (searched (eqb e 2) es).found })
+searched marked [] = Searched.Over marked
+searched marked (e ∷ es) = pick (marked && eqb e 2) (Searched.Found 1) (further 1 (searched (eqb e 2) es))

@@ -4,35 +4,25 @@ ghost use Rattle.irig.specs.Streams.{searched};
 
 use crate::table::MARKER;
 
-// What a search came to: how many elements it took, whether the last of them is the second of two markers, and, if it is not, whether it is a marker.
+// What a search comes to: behind how many elements it found the second of two markers; or, behind all of them, whether the last is a marker.
 #[derive(Clone, Copy)]
-pub(crate) struct Searched {
-    pub taken: usize,
-    pub marked: bool,
-    pub found: bool,
+pub(crate) enum Searched {
+    Found(usize),
+    Over(bool),
 }
 
 // The search in a row, behind a marker or not.
+#[tactic(auto, using(crate::proofs::search::Laws::searches))]
 pub(crate) fn search(marked: bool, row: &[u8]) -> Searched
     ensures { result ≡ searched marked row.now }
 {
     let mut before = marked;
-    let mut i: usize = 0;
-    while i < row.len() {
-        let marker = row[i] == MARKER;
-        i += 1;
+    for (i, &e) in row.iter().enumerate() {
+        let marker = e == MARKER;
         if before & marker {
-            return Searched {
-                taken: i,
-                marked: false,
-                found: true,
-            };
+            return Searched::Found(i + 1);
         }
         before = marker;
     }
-    Searched {
-        taken: i,
-        marked: before,
-        found: false,
-    }
+    Searched::Over(before)
 }

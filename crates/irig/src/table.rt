@@ -8,18 +8,18 @@ pub(crate) const ELEMENTS: usize = 100;
 // A marker.
 pub(crate) const MARKER: u8 = 2;
 
-// The shift of an element that does not stand in the number: a marker's.
+// The shift of an element that does not stand in the number: a marker's. A table of bytes stays half as large as one of options.
 pub(crate) const NO_SHIFT: u8 = 64;
 
-// The table. Each call lays out a copy, so a caller asks once and reads it for all elements.
-pub(crate) fn shifts() -> [u8; 100]
-    ensures { result ≡ map shift_of table }
+// The table, read in place.
+pub(crate) fn shifts() -> &'static [u8; 100]
+    ensures { result.now ≡ map shift_of table }
 {
-    SHIFTS
+    &SHIFTS
 }
 
 // The nine digits have four bits each, from bit 0 on; the binary seconds follow from bit 36 on, and from bit 53 on what the spare elements add up to.
-const SHIFTS: [u8; 100] = [
+static SHIFTS: [u8; 100] = [
     64, 0, 1, 2, 3, 53, 4, 5, 6, 64, 8, 9, 10, 11, 53, 12, 13, 14, 53, 64, 16, 17, 18, 19, 53, 20,
     21, 53, 53, 64, 24, 25, 26, 27, 53, 28, 29, 30, 31, 64, 32, 33, 53, 53, 53, 53, 53, 53, 53, 64,
     53, 53, 53, 53, 53, 53, 53, 53, 53, 64, 53, 53, 53, 53, 53, 53, 53, 53, 53, 64, 53, 53, 53, 53,

@@ -9,6 +9,10 @@ use native.Mathlib.Omega.{arith}
 use lib.ListN.{length, take, drop, get_or}
 use lib.Seq.{take_at, drop_at}
 use borrow.Author.Tests.{not-false}
+use Rattle.std.specs.Prelude.{Ok, Result}
+use Rattle.wire.specs.Numbers.{number_of}
+use Rattle.wire.specs.declared.numbers.Answer.{Answer}
+use Rattle.wire.specs.declared.numbers.Refusal.{Refusal}
 use Rattle.wire.proofs.numbers.Laws.{given_zero, quiet_first}
 use Rattle.clock.specs.declared.clock.Clock.{Clock}
 use Rattle.clock.specs.Falling.{falls}
@@ -18,9 +22,8 @@ use Rattle.clock.proofs.waiting.Answer.{accepted}
 use Rattle.clock.proofs.waiting.Resume.{year_left, lists_on, passes_on, no_ticks}
 use Rattle.card.specs.declared.card.Card.{Card}
 use Rattle.card.specs.declared.waiting.Waited.{Waited}
-use Rattle.card.specs.declared.waiting.WaitedCard.{WaitedCard}
 use Rattle.card.specs.Lawful.{lawful}
-use Rattle.card.specs.Waiting.{card_after, wait_refusal, waited, wait, row_waited}
+use Rattle.card.specs.Waiting.{card_after, wait_refusal, waited, told, wait, row_waited}
 use Rattle.card.proofs.waiting.Laws.{goes, wait_is, row_is, clock_after, card_continues, card_stays}
 use Rattle.laws.specs.Calls.{Call, after, number}
 use Rattle.laws.specs.Demand.{Asked, ticks_passed, records_written, front, Lists, Leaves, Early, left_card, left_ticks, Continues, Nothing}
@@ -33,17 +36,17 @@ module _ (c : Card) (n room : ℕ) (h : Asked c n room) where
   pub accepts : wait_refusal c n room ≡ 0
   accepts = goes c n room h.known (record { ticks = h.day; places = h.place; year = h.year })
 
-  told : (wait c n room).waited ≡ waited 0 (passed c.clock n room) (length (listed c.clock n room))
-  told = ap (λ (w : WaitedCard). w.waited) (wait_is c n room accepts)
+  gives : (wait c n room).outcome ≡ Ok (waited (passed c.clock n room) (length (listed c.clock n room)))
+  gives = ap (λ (a : Answer Card Waited). a.outcome) (wait_is c n room accepts)
 
   passed_is : ticks_passed c n room ≡ passed c.clock n room
-  passed_is = ap (λ (w : Waited). w.passed.ticks) told
+  passed_is = ap (λ (r : Result Waited Refusal). (told r).passed.ticks) gives
 
   written_is : records_written c n room ≡ length (listed c.clock n room)
-  written_is = ap (λ (w : Waited). w.written) told
+  written_is = ap (λ (r : Result Waited Refusal). (told r).written) gives
 
   left_is : left_card c n room ≡ card_after c (passed c.clock n room) (fell (listed c.clock n room))
-  left_is = ap (λ (w : WaitedCard). w.card) (wait_is c n room accepts)
+  left_is = ap (λ (a : Answer Card Waited). a.after) (wait_is c n room accepts)
 
   clock_is : (left_card c n room).clock ≡ clock_later (passed c.clock n room) c.clock
   clock_is = ap (λ (d : Card). d.clock) left_is ∙ clock_after c (passed c.clock n room) (fell (listed c.clock n room))
@@ -68,7 +71,7 @@ module _ (c : Card) (n : ℕ) (row : List ℕ) (h : Asked c n (length row)) wher
       let k : Clock = c.clock in
       let f = sym front_records in
       record {
-        accepted = ap (λ (w : Waited). w.number) (told c n (length row) h);
+        accepted = ap number_of (gives c n (length row) h);
         count = ap length front_listed ∙ sym (written_is c n (length row) h);
         every = λ i l m z. subst (Stands (8 * i + falls k i)) f (every_fall k p i l m z);
         exactly = λ r s. exact k p r (subst (Stands r) front_records s);
@@ -106,7 +109,7 @@ accepted_exactly_if c n row = (
   λ e. let q = quiet_first (not (lawful c)) _ ((done_exactly_if (Call.wait n row) c).0 e) in
       let a = accepted c.clock n (length row) ((given_zero (wait_lines c.clock n (length row)) refl).1 q.1) in
       record { known = not-false (lawful c) q.0; day = a.ticks; year = a.year; place = a.places },
-  λ h. ap (λ (w : Waited). w.number) (told c n (length row) h),
+  λ h. ap number_of (gives c n (length row) h),
 )
 
 -- a wait above 0 passes at least one tick, and none passes more than was asked for
@@ -177,7 +180,7 @@ pub nothing : (c : Card) (row : List ℕ) → Asked c 0 (length row) → Nothing
 nothing c row h =
     let e = no_ticks c.clock (length row) in
     record {
-      accepted = ap (λ (w : Waited). w.number) (told c 0 (length row) h);
+      accepted = ap number_of (gives c 0 (length row) h);
       passes = passed_is c 0 (length row) h ∙ e.0;
       writes = written_is c 0 (length row) h ∙ ap length e.1;
       leaves = row_is c 0 row (accepts c 0 (length row) h) ∙ ap (λ (rs : List ℕ). rs ++ drop (length rs) row) e.1;

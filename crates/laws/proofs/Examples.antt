@@ -7,10 +7,12 @@ use mathlib.Core.List.{List, [], ◌∷◌, ◌++◌, map}
 use lib.IntN.{pos}
 use lib.ListN.{length, drop}
 use borrow.Author.Tests.{leb-true}
+use Rattle.std.specs.Prelude.{⊤}
 use Rattle.wire.specs.Digits.{pick, digits, num, below, packed, unpacked}
 use Rattle.wire.specs.Time.{hour_of, minute_of, second_of, fraction_of, tick_at}
 use Rattle.wire.specs.Words.{words_of, writable, words_or_zero, write_words, time_digits, read_words, read_digits, digits_refusal, decimal, field, in_range}
 use Rattle.wire.specs.Packets.{read_packet, packet_refusal, frame_lines, body_lines, has, place_of, body_of, kinds_of, of_kinds, meaning, offset_of, ascii_values, format_of, modulation_of, bytes_of, framed, data_of, sign_of, ascii, fits, means, needs_jam_off}
+use Rattle.wire.specs.declared.numbers.Answer.{Answer}
 use Rattle.wire.specs.declared.packets.Format.TheVariants as Format
 use Rattle.wire.specs.declared.packets.Modulation.TheVariants as Modulation
 use Rattle.wire.specs.declared.packets.Packet.{Packet}
@@ -21,7 +23,6 @@ use Rattle.parts.proofs.saved.RoundTrip.{load_saved}
 use Rattle.parts.proofs.settings.Laws.{settings_lawful_lem}
 use Rattle.parts.specs.Saved.{saved_form, settings_bits}
 use Rattle.card.specs.declared.card.Card.{Card}
-use Rattle.card.specs.declared.card.Answer.{Answer}
 use Rattle.card.specs.Cards.{answer, with_settings, with_jam}
 use Rattle.card.specs.Lawful.{lawful}
 use Rattle.card.specs.Packets.{ack_refusal}
@@ -43,16 +44,16 @@ after_append : (ks js : List Call) (c : Card) → after_all (ks ++ js) c ≡ aft
 after_append [] js c = refl
 after_append (k ∷ ks) js c = after_append ks js (after k c)
 
-after_puts : (bs : List ℕ) (c : Card) → after_all (puts bs) c ≡ (write_register (fed c bs) 12 0x80).card
+after_puts : (bs : List ℕ) (c : Card) → after_all (puts bs) c ≡ (write_register (fed c bs) 12 0x80).after
 unfolding after
 after_puts [] c = refl
-after_puts (b ∷ bs) c = after_puts bs (write_register c 13 b).card
+after_puts (b ∷ bs) c = after_puts bs (write_register c 13 b).after
 
 -- a packet put in and taken, with the jam off
-takes : (p : Packet) (bs : List ℕ) (c : Card) → bytes_of p ≡ bs → lawful c ≡ true → c.queue ≡ empty_queue → fits p ≡ true → means p ≡ true → c.jam ≡ false → after_all (puts bs) c ≡ (set_by c p).card
+takes : (p : Packet) (bs : List ℕ) (c : Card) → bytes_of p ≡ bs → lawful c ≡ true → c.queue ≡ empty_queue → fits p ≡ true → means p ≡ true → c.jam ≡ false → after_all (puts bs) c ≡ (set_by c p).after
 takes p bs c e l z f m j =
-    after_puts bs c ∙ ap (λ (a : List ℕ). (write_register (fed c a) 12 0x80).card) (sym e) ∙ ap (λ (a : Answer). a.card) (fed_packet p c l z f m)
-    ∙ ap (λ (t : Bool). (pick (t && needs_jam_off p) (refused_by c 25) (set_by c p)).card) j
+    after_puts bs c ∙ ap (λ (a : List ℕ). (write_register (fed c a) 12 0x80).after) (sym e) ∙ ap (λ (a : Answer Card ⊤). a.after) (fed_packet p c l z f m)
+    ∙ ap (λ (t : Bool). (pick (t && needs_jam_off p) (refused_by c 25) (set_by c p)).after) j
 
 abbrev format_bytes : List ℕ
 format_bytes = 0x01 ∷ 0x48 ∷ 0x42 ∷ 0x44 ∷ 0x17 ∷ []
@@ -63,19 +64,19 @@ off_card = with_jam fresh_card false
 
 off_set : after (Call.switch_jam false) fresh_card ≡ off_card
 unfolding after
-off_set = ap (λ (a : Answer). a.card) (off_taken fresh_card fresh_lawful)
+off_set = ap (λ (a : Answer Card ⊤). a.after) (off_taken fresh_card fresh_lawful)
 
 off_lawful : lawful off_card ≡ true
 off_lawful = sym (ap lawful off_set) ∙ keeps (Call.switch_jam false) fresh_card fresh_lawful
 
-format_set : after_all (puts format_bytes) off_card ≡ (set_by off_card (Packet.H Format.B Modulation.D)).card
+format_set : after_all (puts format_bytes) off_card ≡ (set_by off_card (Packet.H Format.B Modulation.D)).after
 unfolding framed data_of
 format_set = takes (Packet.H Format.B Modulation.D) format_bytes off_card refl off_lawful fresh_queue refl refl refl
 
 page_set : (after_all page_calls fresh_card).settings ≡ page_settings
 unfolding fresh_card framed data_of sign_of ascii digits
 page_set =
-    let c : Card = (set_by off_card (Packet.H Format.B Modulation.D)).card in
+    let c : Card = (set_by off_card (Packet.H Format.B Modulation.D)).after in
     let l : lawful c ≡ true = sym (ap lawful format_set) ∙ keeps_all (puts format_bytes) off_card off_lawful in
     ap (λ (d : Card). d.settings) (ap (after_all (puts format_bytes ++ puts offset_bytes)) off_set ∙ after_append (puts format_bytes) (puts offset_bytes) off_card
     ∙ ap (after_all (puts offset_bytes)) format_set ∙ takes (Packet.G (pos 25000)) offset_bytes c refl l refl refl refl refl)
@@ -122,4 +123,7 @@ all_waits (l ∷ ls) h = (h.0, all_waits ls h.1)
 
 pub page_holds : Each Stated page
 unfolding words_of writable words_or_zero write_words time_digits read_words read_digits digits_refusal decimal field in_range hour_of minute_of second_of fraction_of tick_at digits num below packed unpacked read_packet packet_refusal frame_lines body_lines has place_of body_of kinds_of of_kinds meaning offset_of ascii_values format_of modulation_of
-page_holds = ((refl, refl, refl), (refl, (refl, (refl, (page_taken, (refl, (refl, (refl, (refl, (page_saved, all_waits waits starred))))))))))
+page_holds = (
+  (refl, refl, refl),
+  ((refl, refl), ((refl, refl), (refl, (page_taken, (refl, (refl, (refl, (refl, (page_saved, all_waits waits starred))))))))),
+)

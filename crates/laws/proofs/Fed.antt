@@ -9,16 +9,17 @@ use native.Mathlib.Omega.{arith}
 use lib.Dec.{eqb}
 use lib.ListN.{length, take, replicate}
 use lib.Seq.{take_at, take-length}
+use Rattle.std.specs.Prelude.{Ok, ⊤}
 use Rattle.wire.specs.Digits.{pick, below}
+use Rattle.wire.specs.Numbers.{number_of}
+use Rattle.wire.specs.declared.numbers.Answer.{Answer}
 use Rattle.wire.specs.Packets.{read_packet, number_read, jam_off_read, bytes_of, fits, means, needs_jam_off}
 use Rattle.wire.specs.declared.packets.Packet.{Packet}
-use Rattle.wire.specs.declared.packets.PacketRead.TheVariants as PacketRead
 use Rattle.wire.proofs.packets.Read.{read_is}
 use Rattle.wire.proofs.packets.RoundTrip.{read_written, bytes_below, bytes_few}
 use Rattle.parts.specs.declared.queue.Queue.{Queue}
 use Rattle.parts.specs.Pending.{bit}
 use Rattle.card.specs.declared.card.Card.{Card}
-use Rattle.card.specs.declared.card.Answer.{Answer}
 use Rattle.card.specs.declared.blocks.BlockAnswer.{BlockAnswer}
 use Rattle.card.specs.Blocks.{finding, joined}
 use Rattle.card.specs.Cards.{answer, with_done, with_queue, with_settings}
@@ -28,7 +29,7 @@ use Rattle.parts.specs.Settings.{applied}
 use Rattle.card.specs.Packets.{taken, ack_refusal, ack_number, settings_taken, acknowledged}
 use Rattle.card.specs.Registers.{write_refusal, write_register, written}
 use Rattle.card.proofs.blocks.Laws.{block_joined}
-use Rattle.card.proofs.Ack.{ack_decided, ack_reads}
+use Rattle.card.proofs.Ack.{ack_told, ack_decided, ack_reads}
 use Rattle.laws.specs.Calls.{Call, after, fed}
 use Rattle.laws.proofs.Blocks.{block_fed}
 use Rattle.laws.proofs.Keeps.{keeps}
@@ -55,10 +56,10 @@ module _ (bs : List ℕ) (c : Card) (l : lawful c ≡ true) (z : c.queue ≡ emp
 -- ---- ACK of a lawful card
 
 -- what it answers of a packet that is refused, and of one that is taken
-abbrev pub refused_by : Card → ℕ → Answer
+abbrev pub refused_by : Card → ℕ → Answer Card ⊤
 refused_by c n = answer (with_done (with_queue c empty_queue) false) n
 
-abbrev pub set_by : Card → Packet → Answer
+abbrev pub set_by : Card → Packet → Answer Card ⊤
 set_by c p = answer (with_done (with_settings (with_queue c empty_queue) (applied p c.settings)) true) 0
 
 module _ (c : Card) (l : lawful c ≡ true) (v : ℕ) (b : bit 128 v ≡ true) where
@@ -71,7 +72,7 @@ module _ (c : Card) (l : lawful c ≡ true) (v : ℕ) (b : bit 128 v ≡ true) w
       go false = refl
 
   -- the queue reads as a packet: 25 if that needs the jam off while the jam is on, else what it says is set
-  pub ack_is : (p : Packet) (needs : Bool) → read_packet (queued c.queue) ≡ PacketRead.Is p needs → write_register c 12 v ≡ pick (c.jam && needs) (refused_by c 25) (set_by c p)
+  pub ack_is : (p : Packet) (needs : Bool) → read_packet (queued c.queue) ≡ Ok (record { packet = p; needs_jam_off = needs }) → write_register c 12 v ≡ pick (c.jam && needs) (refused_by c 25) (set_by c p)
   unfolding settings_taken
   ack_is p needs e = go (c.jam && needs) refl
     where
@@ -86,17 +87,18 @@ module _ (c : Card) (l : lawful c ≡ true) (v : ℕ) (b : bit 128 v ≡ true) w
 
 module _ (bs : List ℕ) (c : Card) (l : lawful c ≡ true) (z : c.queue ≡ empty_queue) (room : length bs ≤ 64) (s : below 256 bs ≡ true) where
   -- the number is that of the table of ACK, of the bytes and of the card's jam
-  pub fed_number : (write_register (fed c bs) 12 0x80).number ≡ ack_refusal c.jam bs
+  pub fed_number : number_of (write_register (fed c bs) 12 0x80).outcome ≡ ack_refusal c.jam bs
   fed_number =
-      ap (λ (a : Answer). a.number) (acknowledges (fed c bs) (fed_lawful bs c l z room s) 0x80 refl)
+      ap (λ (a : Answer Card ⊤). number_of a.outcome) (acknowledges (fed c bs) (fed_lawful bs c l z room s) 0x80 refl)
+      ∙ ack_told (fed c bs).jam (queued (fed c bs).queue) (tt {0})
       ∙ ap₂ ack_refusal (ap (λ (k : Card). k.jam) (fed_card bs c l z room s)) (fed_queued bs c l z room s)
 
   -- so what the bytes read as on their own decides it, and then the jam
-  pub fed_reads : (write_register (fed c bs) 12 0x80).number ≡ pick (eqb (number_read (read_packet bs)) 0) (pick (c.jam && jam_off_read (read_packet bs)) 25 0) (number_read (read_packet bs))
+  pub fed_reads : number_of (write_register (fed c bs) 12 0x80).outcome ≡ pick (eqb (number_read (read_packet bs)) 0) (pick (c.jam && jam_off_read (read_packet bs)) 25 0) (number_read (read_packet bs))
   fed_reads = fed_number ∙ ack_reads c.jam bs
 
   -- bytes that read as a packet set what it says, or are refused by 25
-  pub fed_is : (p : Packet) (needs : Bool) → read_packet bs ≡ PacketRead.Is p needs → write_register (fed c bs) 12 0x80 ≡ pick (c.jam && needs) (refused_by c 25) (set_by c p)
+  pub fed_is : (p : Packet) (needs : Bool) → read_packet bs ≡ Ok (record { packet = p; needs_jam_off = needs }) → write_register (fed c bs) 12 0x80 ≡ pick (c.jam && needs) (refused_by c 25) (set_by c p)
   fed_is p needs e =
       ack_is (fed c bs) (fed_lawful bs c l z room s) 0x80 refl p needs (ap read_packet (fed_queued bs c l z room s) ∙ e)
       ∙ ap (λ (d : Card). pick (d.jam && needs) (refused_by d 25) (set_by d p)) (fed_card bs c l z room s)

@@ -5,6 +5,8 @@ use mathlib.Core.Path.{◌≡◌, refl, sym}
 use mathlib.Core.Bool.{true}
 use mathlib.Core.List.{List}
 use lib.Dec.{lit≤}
+use Rattle.std.specs.Prelude.{Ok}
+use Rattle.wire.specs.declared.words.Moment.{Moment}
 use Rattle.wire.proofs.words.Laws.{writable_day, writable_tick}
 use Rattle.clock.specs.Time.{days_in, instant}
 use Rattle.clock.specs.Clocks.{with_time}
@@ -21,20 +23,20 @@ all_days : days_in 2000 ≡ 366
 unfolding days_in
 all_days = refl
 
-module _ (row : List ℕ) (n : (read_frame row).number ≡ 0) (c : Card) (l : lawful c ≡ true) where
+module _ (row : List ℕ) (m : Moment) (n : read_frame row ≡ Ok m) (c : Card) (l : lawful c ≡ true) where
   -- a card at the time that the row reads as
   abbrev then : Card
-  then = with_clock c (with_time c.clock (instant 2000 (read_frame row).day (read_frame row).tick.ticks))
+  then = with_clock c (with_time c.clock (instant 2000 m.day m.tick.ticks))
 
   pub then_lawful : lawful then ≡ true
   then_lawful =
-      let w = read_writable row n in
+      let w = read_writable row m n in
       let d = writable_day _ _ w in
       let y = all_days in
-      with_time_lem c (instant 2000 (read_frame row).day (read_frame row).tick.ticks) l
+      with_time_lem c (instant 2000 m.day m.tick.ticks) l
       record { proper = record { year = lit≤ tt; day_low = d.0; day_high = rw y d.1; tick = writable_tick _ _ w }; year = lit≤ tt }
 
   -- a frame written for it into the row leaves the row as it is
   pub written_then : (number (Call.write_frame row) then ≡ 0) × (left (Call.write_frame row) then ≡ row)
   unfolding number left
-  written_then = (writes then row then_lawful (read_long row n), write_back then row then_lawful n refl (sym (read_whole row n)))
+  written_then = (writes then row then_lawful (read_long row m n), write_back then row then_lawful m n refl (sym (read_whole row m n)))

@@ -5,14 +5,15 @@ use mathlib.Core.Path.{◌≡◌, refl, sym, ap, ◌∙◌}
 use mathlib.Core.Bool.{Bool, true, false, ◌&&◌, not}
 use mathlib.Core.List.{List, [], ◌∷◌}
 use mathlib.Core.Logic.{◌⊎◌, inl, inr}
+use Rattle.std.specs.Prelude.{⊤}
 use Rattle.wire.specs.Digits.{pick}
-use Rattle.wire.specs.Numbers.{◌if◌}
+use Rattle.wire.specs.Numbers.{◌if◌, granted}
+use Rattle.wire.specs.declared.numbers.Answer.{Answer}
 use Rattle.wire.specs.Packets.{offset_large}
 use Rattle.wire.specs.declared.packets.Packet.{Packet}
 use Rattle.parts.specs.Settings.{jam_fits}
 use Rattle.card.specs.declared.card.Card.{Card}
-use Rattle.card.specs.declared.card.Answer.{Answer}
-use Rattle.card.specs.Cards.{answer, granted, with_jam}
+use Rattle.card.specs.Cards.{answer, with_jam}
 use Rattle.card.specs.Lawful.{lawful}
 use Rattle.card.specs.Reset.{fresh_card}
 use Rattle.card.specs.Setting.{switch_jam}
@@ -62,16 +63,16 @@ jam_switching (Call.switch_jam on) c = inr (SwitchesJam.switches on)
 -- a reset leaves it on
 pub reset_jam : (c : Card) → number Call.reset c ≡ 0 → (after Call.reset c).jam ≡ true
 unfolding after
-reset_jam c e = ap (λ (a : Answer). a.card.jam) (reset_answers c (accepted_lawful Call.reset c e))
+reset_jam c e = ap (λ (a : Answer Card ⊤). a.after.jam) (reset_answers c (accepted_lawful Call.reset c e))
 
 -- ---- what the switch answers, of a lawful card
 
 module _ (c : Card) (l : lawful c ≡ true) where
   pub switch_is : (on : Bool) → switch_jam c on ≡ pick (jam_fits on c.settings) (answer (with_jam c on) 0) (answer c 25)
-  unfolding switch_jam granted
+  unfolding switch_jam
   switch_is on = simp l (go (jam_fits on c.settings))
     where
-      go : (t : Bool) → granted (25 if not t ∷ []) c (with_jam c on) ≡ pick t (answer (with_jam c on) 0) (answer c 25)
+      go : (t : Bool) → granted (25 if not t ∷ []) c (with_jam c on) tt ≡ pick t (answer (with_jam c on) 0) (answer c 25)
       go true = refl
       go false = refl
 

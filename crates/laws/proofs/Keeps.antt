@@ -1,6 +1,6 @@
 -- Every call leaves a lawful card lawful, and a fresh card is: so no chain of calls leads out. By the cases of Outcomes, part by part. Assumes nothing.
 use Prim.Native.Nat.{ℕ, ◌%◌}
-use mathlib.Core.Path.{◌≡◌, refl, ap}
+use mathlib.Core.Path.{◌≡◌, refl}
 use mathlib.Core.Bool.{Bool, true, false}
 use mathlib.Core.List.{List, [], ◌∷◌}
 use native.Mathlib.Omega.{arith}
@@ -9,7 +9,6 @@ use lib.ListN.{length}
 use Rattle.wire.specs.Numbers.{given}
 use Rattle.wire.specs.Packets.{packet_in}
 use Rattle.wire.specs.declared.packets.ClockSource.TheVariants as ClockSource
-use Rattle.wire.specs.declared.words.TimeRead.{TimeRead}
 use Rattle.wire.proofs.packets.Read.{reads_in}
 use Rattle.wire.proofs.packets.RoundTrip.{written_read}
 use Rattle.clock.specs.declared.time.Time.{Time}
@@ -83,7 +82,7 @@ module _ (c : Card) (h : lawful c ≡ true) where
 
 -- words of a lawful card's time can be read
 words_lawful : (c : Card) → lawful c ≡ true → latch_lawful (words_now c) ≡ true
-words_lawful c h = read_lawful (words_now c) (ap (λ (r : TimeRead). r.number) (words_read c.clock.time (time_lawful_lem c h)))
+words_lawful c h = read_lawful (words_now c) _ (words_read c.clock.time (time_lawful_lem c h))
 
 -- ---- waiting and reset
 

@@ -6,7 +6,10 @@ use mathlib.Core.Bool.{Bool, true, false}
 use mathlib.Core.Logic.{◌⊎◌, inl, inr}
 use lib.Dec.{eqb}
 use borrow.Author.Tests.{eqb-true}
+use Rattle.std.specs.Prelude.{Ok, ⊤}
 use Rattle.wire.specs.Digits.{pick}
+use Rattle.wire.specs.Numbers.{number_of}
+use Rattle.wire.specs.declared.numbers.Answer.{Answer}
 use Rattle.wire.specs.Words.{zero_words}
 use Rattle.wire.proofs.digits.Laws.{clash}
 use Rattle.wire.specs.declared.packets.Packet.{Packet}
@@ -14,12 +17,10 @@ use Rattle.parts.specs.declared.event.Event.{Event}
 use Rattle.parts.specs.Events.{matching}
 use Rattle.parts.proofs.event.Laws.{edge_captures}
 use Rattle.card.specs.declared.card.Card.{Card}
-use Rattle.card.specs.declared.card.Answer.{Answer}
-use Rattle.card.specs.declared.registers.Value.{Value}
-use Rattle.card.specs.Cards.{answer, granted, with_time_latch}
+use Rattle.card.specs.Cards.{answer, with_time_latch}
 use Rattle.card.specs.Lawful.{lawful}
 use Rattle.card.specs.Registers
-use Rattle.card.specs.Registers.{value, words_now, read_refusal, read_register, shown, write_refusal, write_register, written, matched}
+use Rattle.card.specs.Registers.{words_now, read_register, shown, write_refusal, write_register, written, matched}
 use Rattle.card.specs.Reset
 use Rattle.card.specs.Reset.{reset_card}
 use Rattle.laws.specs.Calls.{Call, after, number, Field, among, Same, packet_touches, read_touches, write_touches, touches, LatchesTime, LatchesEvent}
@@ -110,8 +111,8 @@ event_latching (Call.switch_jam on) c = inl (event_same (Call.switch_jam on) c r
 
 -- what they answer of a lawful card
 module _ (c : Card) (l : lawful c ≡ true) where
-  read_answers : read_register c 0 ≡ value (with_time_latch c (words_now c)) 0 (shown c 0)
-  unfolding read_register read_refusal
+  read_answers : read_register c 0 ≡ record { after = with_time_latch c (words_now c); outcome = Ok (shown c 0) }
+  unfolding read_register
   read_answers = simp l
 
   write_answers : (v : ℕ) → write_register c 0 v ≡ answer (with_time_latch c (words_now c)) 0
@@ -120,42 +121,42 @@ module _ (c : Card) (l : lawful c ≡ true) where
 
   edge_answers : (falling t : Bool) → matching c.event.control falling ≡ t
       → Registers.edge c falling ≡ answer (pick t (matched c) c) 0
-  unfolding Registers.edge granted
+  unfolding Registers.edge
   edge_answers falling t e = simp (l, e)
 
   pub reset_answers : Reset.reset c ≡ answer (reset_card c.clock.time c.settings) 0
-  unfolding Reset.reset granted
+  unfolding Reset.reset
   reset_answers = simp l
 
 -- an accepted reading or writing of register 0: the words of the card's time, all of one instant
 pub time_request : (c : Card) → number (Call.read 0) c ≡ 0 → (after (Call.read 0) c).time_latch ≡ words_now c
 unfolding after
-time_request c e = ap (λ (v : Value). v.card.time_latch) (read_answers c (accepted_lawful (Call.read 0) c e))
+time_request c e = ap (λ (a : Answer Card ℕ). a.after.time_latch) (read_answers c (accepted_lawful (Call.read 0) c e))
 
 pub time_written : (v : ℕ) (c : Card) → number (Call.write 0 v) c ≡ 0 → (after (Call.write 0 v) c).time_latch ≡ words_now c
 unfolding after
-time_written v c e = ap (λ (a : Answer). a.card.time_latch) (write_answers c (accepted_lawful (Call.write 0 v) c e) v)
+time_written v c e = ap (λ (a : Answer Card ⊤). a.after.time_latch) (write_answers c (accepted_lawful (Call.write 0 v) c e) v)
 
 -- an edge is refused by 18 alone
 pub edge_accepted : (falling : Bool) (c : Card) → lawful c ≡ true → number (Call.edge falling) c ≡ 0
 unfolding number
-edge_accepted falling c l = ap (λ (a : Answer). a.number) (edge_answers c l falling (matching c.event.control falling) refl)
+edge_accepted falling c l = ap (λ (a : Answer Card ⊤). number_of a.outcome) (edge_answers c l falling (matching c.event.control falling) refl)
 
 -- an accepted edge: what a matching one leaves; on an open latch the words of the card's time; one that does not match leaves the card as it is
 pub edge_matched : (falling : Bool) (c : Card) → number (Call.edge falling) c ≡ 0 → matching c.event.control falling ≡ true → after (Call.edge falling) c ≡ matched c
 unfolding after
-edge_matched falling c e t = ap (λ (a : Answer). a.card) (edge_answers c (accepted_lawful (Call.edge falling) c e) falling true t)
+edge_matched falling c e t = ap (λ (a : Answer Card ⊤). a.after) (edge_answers c (accepted_lawful (Call.edge falling) c e) falling true t)
 
 pub edge_captured : (falling : Bool) (c : Card) → number (Call.edge falling) c ≡ 0 → matching c.event.control falling ≡ true → c.event.closed ≡ false → (after (Call.edge falling) c).event.latch ≡ words_now c
 edge_captured falling c e t o = ap (λ (d : Card). d.event.latch) (edge_matched falling c e t) ∙ ap (λ (x : Event). x.latch) (edge_captures c.event (words_now c) o)
 
 pub edge_passed : (falling : Bool) (c : Card) → number (Call.edge falling) c ≡ 0 → matching c.event.control falling ≡ false → after (Call.edge falling) c ≡ c
 unfolding after
-edge_passed falling c e t = ap (λ (a : Answer). a.card) (edge_answers c (accepted_lawful (Call.edge falling) c e) falling false t)
+edge_passed falling c e t = ap (λ (a : Answer Card ⊤). a.after) (edge_answers c (accepted_lawful (Call.edge falling) c e) falling false t)
 
 -- an accepted reset: zeros in both
 pub reset_latches : (c : Card) → number Call.reset c ≡ 0 → ((after Call.reset c).time_latch ≡ zero_words) × ((after Call.reset c).event.latch ≡ zero_words)
 unfolding after
 reset_latches c e =
     let q = reset_answers c (accepted_lawful Call.reset c e) in
-    (ap (λ (a : Answer). a.card.time_latch) q, ap (λ (a : Answer). a.card.event.latch) q)
+    (ap (λ (a : Answer Card ⊤). a.after.time_latch) q, ap (λ (a : Answer Card ⊤). a.after.event.latch) q)

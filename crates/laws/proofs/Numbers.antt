@@ -1,39 +1,35 @@
 -- Every number of every call is that of its table of lines, and so it is given exactly if its line holds and no line above it does, and 0 exactly if none holds.
 -- Assumes nothing.
 use Prim.Native.Nat.{ℕ}
-use mathlib.Core.Path.{◌≡◌, refl, sym, ap, ◌∙◌}
-use mathlib.Core.Bool.{Bool, true, false, ◌&&◌, not}
+use mathlib.Core.Path.{◌≡◌, refl, sym, ap, ap₂, ◌∙◌}
+use mathlib.Core.Bool.{Bool, true, false, ◌&&◌}
 use mathlib.Core.List.{List, [], ◌∷◌, ◌++◌}
 use mathlib.Core.Logic.{◌↔◌}
 use lib.Dec.{eqb}
-use lib.ListN.{length}
 use borrow.Author.Tests.{eqb-true}
+use Rattle.std.specs.Prelude.{⊤}
 use Rattle.wire.specs.Digits.{pick}
-use Rattle.wire.specs.Numbers.{Line, ◌if◌, given, quiet, absent}
-use Rattle.wire.proofs.digits.Laws.{picked, zero_or}
+use Rattle.wire.specs.Numbers.{Line, ◌if◌, given, quiet, absent, answered, number_of}
+use Rattle.wire.specs.declared.numbers.Answer.{Answer}
+use Rattle.wire.proofs.digits.Laws.{picked}
+use Rattle.wire.proofs.numbers.Names.{given_number}
 use Rattle.wire.proofs.numbers.Laws.{given_exactly, given_zero, given_append}
-use Rattle.parts.specs.Interrupts.{line_up}
 use Rattle.parts.specs.Pending.{bit}
 use Rattle.parts.specs.Queues.{queued}
 use Rattle.card.specs.declared.card.Card.{Card}
-use Rattle.card.specs.declared.card.Answer.{Answer}
-use Rattle.card.specs.declared.registers.Value.{Value}
-use Rattle.card.specs.declared.registers.InterruptLine.{InterruptLine}
-use Rattle.card.specs.declared.waiting.WaitedCard.{WaitedCard}
-use Rattle.card.specs.Cards.{answer, granted}
+use Rattle.card.specs.Cards.{answer}
 use Rattle.card.specs.Lawful.{lawful}
-use Rattle.card.specs.Packets.{ack_lines, ack_refusal, acknowledged}
+use Rattle.card.specs.Packets.{ack_lines, ack_refusal, ack_number, acknowledged}
 use Rattle.card.specs.Registers
-use Rattle.card.specs.Registers.{read_refusal, read_register, write_lines, write_refusal, write_register, written, line_refusal}
+use Rattle.card.specs.Registers.{write_lines, write_refusal, write_register, written, line_refusal}
 use Rattle.card.specs.Setting
 use Rattle.card.specs.Waiting
-use Rattle.card.specs.Waiting.{wait_refusal, waited}
 use Rattle.card.specs.Reset
 use Rattle.card.specs.Saved
 use Rattle.card.specs.Saved.{save_refusal}
 use Rattle.irig.specs.Writing
 use Rattle.card.proofs.blocks.Laws.{block_number}
-use Rattle.card.proofs.Ack.{ack_numbered}
+use Rattle.card.proofs.Ack.{ack_told, ack_numbered}
 use Rattle.laws.specs.Calls.{Call, number}
 use Rattle.laws.specs.Refusals.{lines}
 use Rattle.laws.proofs.Outcomes.{by}
@@ -51,15 +47,19 @@ module _ (c : Card) (reg v : ℕ) where
   at_other : (k : ℕ) → eqb k 12 ≡ false → eqb reg k ≡ true → 0 ≡ given packet
   at_other k d e = no_packet (ap (λ (r : ℕ). eqb r 12) (eqb-true reg k e) ∙ d)
 
-  at_ack : eqb reg 12 ≡ true → (acknowledged c v).number ≡ given packet
-  unfolding acknowledged ack_refusal
-  at_ack e = simp e (picked (λ (a : Answer). a.number) (bit 128 v) _ _ ∙ go (bit 128 v))
-    where
-      go : (t : Bool) → pick t (given (ack_lines c.jam (queued c.queue))) 0 ≡ given (pick t (ack_lines c.jam (queued c.queue)) [])
-      go true = refl
-      go false = refl
+  ack_gives : number_of (answered {A = ⊤} (ack_number c) tt) ≡ given (ack_lines c.jam (queued c.queue))
+  unfolding ack_refusal
+  ack_gives = ack_told c.jam (queued c.queue) tt
 
-  written_number : (written c reg v).number ≡ given packet
+  at_ack : eqb reg 12 ≡ true → number_of (acknowledged c v).outcome ≡ given packet
+  unfolding acknowledged
+  at_ack e = simp e (go (bit 128 v) _ _)
+    where
+      go : (t : Bool) (x y : Card) → number_of (pick t (answer x (ack_number c)) (answer y 0)).outcome ≡ given (pick t (ack_lines c.jam (queued c.queue)) [])
+      go true x y = ack_gives
+      go false x y = refl
+
+  written_number : number_of (written c reg v).outcome ≡ given packet
   unfolding written
   written_number =
       by Gives (eqb reg 0) (at_other 0 refl)
@@ -68,51 +68,34 @@ module _ (c : Card) (reg v : ℕ) where
       (λ e12. by Gives (eqb reg 13) (λ e. no_packet e12)
       (λ e13. by Gives (eqb reg 18) (λ e. no_packet e12) (λ e. no_packet e12)))))
     where
-      Gives : Answer → Type 0
-      Gives a = a.number ≡ given packet
+      Gives : Answer Card ⊤ → Type 0
+      Gives a = number_of a.outcome ≡ given packet
 
-  write_number : (write_register c reg v).number ≡ given (write_lines (lawful c) reg c.queue.fill ++ packet)
+  write_number : number_of (write_register c reg v).outcome ≡ given (write_lines (lawful c) reg c.queue.fill ++ packet)
   unfolding write_register write_refusal
   write_number =
-      picked (λ (a : Answer). a.number) (eqb (given (write_lines (lawful c) reg c.queue.fill)) 0) (written c reg v) (answer c (given (write_lines (lawful c) reg c.queue.fill)))
-      ∙ ap (λ (n : ℕ). pick (eqb (given (write_lines (lawful c) reg c.queue.fill)) 0) n (given (write_lines (lawful c) reg c.queue.fill))) written_number
+      picked (λ (a : Answer Card ⊤). number_of a.outcome) (eqb (given (write_lines (lawful c) reg c.queue.fill)) 0) (written c reg v) (answer c (given (write_lines (lawful c) reg c.queue.fill)))
+      ∙ ap₂ (pick (eqb (given (write_lines (lawful c) reg c.queue.fill)) 0)) written_number (given_number (write_lines (lawful c) reg c.queue.fill) tt refl)
       ∙ sym (given_append (write_lines (lawful c) reg c.queue.fill) packet refl)
-
-read_gives : (c : Card) (reg : ℕ) → (read_register c reg).number ≡ read_refusal (lawful c) reg
-unfolding read_register
-read_gives c reg = picked (λ (r : Value). r.number) (eqb (read_refusal (lawful c) reg) 0) _ _ ∙ zero_or (read_refusal (lawful c) reg) (eqb (read_refusal (lawful c) reg) 0) refl
-
-wait_gives : (c : Card) (n room : ℕ) → (Waiting.wait c n room).waited.number ≡ wait_refusal c n room
-unfolding Waiting.wait
-wait_gives c n room = picked (λ (w : WaitedCard). w.waited.number) (eqb (wait_refusal c n room) 0) _ _ ∙ zero_or (wait_refusal c n room) (eqb (wait_refusal c n room) 0) refl
-
-line_table : (c : Card) (t : Bool) → lawful c ≡ t → (Registers.line c).number ≡ given (18 if not (lawful c) ∷ [])
-unfolding Registers.line line_refusal
-line_table c true e = simp e (picked (λ (l : InterruptLine). l.number) (line_up c.interrupts) _ _ ∙ same (line_up c.interrupts))
-  where
-    same : (t : Bool) → ◌≡◌ {A = ℕ} (pick t 0 0) 0
-    same true = refl
-    same false = refl
-line_table c false e = simp e
 
 -- ---- all calls
 
 pub number_given : (k : Call) (c : Card) → number k c ≡ given (lines k c)
-unfolding number Setting.set_time Setting.set_strobe Setting.set_periodic Setting.switch_jam Registers.edge Reset.reset Saved.load save_refusal Writing.write_refusal granted read_refusal wait_refusal
-number_given (Call.set_time year day hour minute second) c = refl
-number_given (Call.read reg) c = read_gives c reg
+unfolding number Setting.set_time Setting.set_strobe Setting.set_periodic Setting.switch_jam Registers.read_register Registers.edge Registers.line line_refusal Waiting.wait Reset.reset Saved.load save_refusal Writing.write_refusal
+number_given (Call.set_time year day hour minute second) c = given_number (lines (Call.set_time year day hour minute second) c) _ refl
+number_given (Call.read reg) c = given_number (lines (Call.read reg) c) _ refl
 number_given (Call.write reg v) c = write_number c reg v
 number_given (Call.block row) c = block_number c row
-number_given (Call.edge falling) c = refl
-number_given Call.line c = line_table c (lawful c) refl
-number_given (Call.set_strobe s) c = refl
-number_given (Call.set_periodic d) c = refl
-number_given (Call.wait n row) c = wait_gives c n (length row)
-number_given Call.reset c = refl
+number_given (Call.edge falling) c = given_number (lines (Call.edge falling) c) _ refl
+number_given Call.line c = given_number (lines Call.line c) _ refl
+number_given (Call.set_strobe s) c = given_number (lines (Call.set_strobe s) c) _ refl
+number_given (Call.set_periodic d) c = given_number (lines (Call.set_periodic d) c) _ refl
+number_given (Call.wait n row) c = given_number (lines (Call.wait n row) c) _ refl
+number_given Call.reset c = given_number (lines Call.reset c) _ refl
 number_given (Call.save row) c = refl
-number_given (Call.load bytes) c = refl
+number_given (Call.load bytes) c = given_number (lines (Call.load bytes) c) _ refl
 number_given (Call.write_frame row) c = refl
-number_given (Call.switch_jam on) c = refl
+number_given (Call.switch_jam on) c = given_number (lines (Call.switch_jam on) c) _ refl
 
 -- no line has the number 0
 numbered : (k : Call) (c : Card) → absent 0 (lines k c) ≡ true

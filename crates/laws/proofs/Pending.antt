@@ -8,6 +8,8 @@ use mathlib.Core.Logic.{◌↔◌}
 use native.Mathlib.Omega.{arith}
 use lib.Dec.{eqb, lit<}
 use lib.ListN.{length}
+use Rattle.std.specs.Prelude.{Ok, Some}
+use Rattle.wire.specs.declared.numbers.Answer.{Answer}
 use Rattle.wire.proofs.digits.Laws.{and_left, and_both}
 use Rattle.clock.specs.declared.waiting.Fell.{Fell}
 use Rattle.clock.specs.Waiting.{listed, passed, fell}
@@ -17,7 +19,7 @@ use Rattle.parts.specs.Pending.{bit, Shared}
 use Rattle.parts.proofs.interrupts.Laws.{ranges}
 use Rattle.parts.proofs.interrupts.Bits.{event_raises, sources_raise, clears, line_up_lem}
 use Rattle.card.specs.declared.card.Card.{Card}
-use Rattle.card.specs.declared.waiting.WaitedCard.{WaitedCard}
+use Rattle.card.specs.declared.waiting.Waited.{Waited}
 use Rattle.card.specs.Lawful.{lawful}
 use Rattle.card.specs.Registers
 use Rattle.card.proofs.lawful.Laws.{parts}
@@ -51,7 +53,7 @@ wait_raises c n row i l e =
     let h : Asked c n (length row) = (accepted_exactly_if c n row).0 e in
     let f : Fell = fell (listed c.clock n (length row)) in
     ap (λ (x : ℕ). bit (2 ^ i) x)
-    (ap (λ (w : WaitedCard). w.card.interrupts.pending) (wait_is c n (length row) (accepts c n (length row) h)) ∙ pending_after_lem c (passed c.clock n (length row)) f)
+    (ap (λ (a : Answer Card Waited). a.after.interrupts.pending) (wait_is c n (length row) (accepts c n (length row) h)) ∙ pending_after_lem c (passed c.clock n (length row)) f)
     ∙ sources_raise f.periodic f.strobe f.second c.interrupts.pending (pending_small c h.known) i l
     ∙ ap (λ (rs : List ℕ). pending_bit i c || source_of i (fell rs).periodic (fell rs).strobe (fell rs).second) (sym (front_listed c n row h))
 
@@ -111,15 +113,16 @@ never_four k c = four_by k c (after k c) (outcome k c)
 
 -- ---- the line
 
-told : (c : Card) (t : Bool) → lawful c && line_up c.interrupts ≡ t → (Registers.line c).up ≡ t
-unfolding Registers.line
-told c true e = simp e
-told c false e = simp e
+answers : (c : Card) (k t : Bool) → lawful c ≡ k → line_up c.interrupts ≡ t → Registers.up (Registers.told (Registers.line c)) ≡ (k && t)
+unfolding Registers.line Registers.line_refusal
+answers c true true l e = simp (l, e)
+answers c true false l e = simp (l, e)
+answers c false t l e = simp l
 
 -- up exactly if the card is lawful, LEVEL is not 0, and some pending bit is also set in MASK
-pub line_is_up : (c : Card) → (Registers.line c).up ≡ true ↔ ((lawful c ≡ true) × (c.interrupts.level ≡ 0 → ⊥) × Shared c.interrupts.pending c.interrupts.mask)
+pub line_is_up : (c : Card) → Registers.up (Registers.told (Registers.line c)) ≡ true ↔ ((lawful c ≡ true) × (c.interrupts.level ≡ 0 → ⊥) × Shared c.interrupts.pending c.interrupts.mask)
 line_is_up c =
-    let t : (Registers.line c).up ≡ (lawful c && line_up c.interrupts) = told c (lawful c && line_up c.interrupts) refl in (
+    let t : Registers.up (Registers.told (Registers.line c)) ≡ (lawful c && line_up c.interrupts) = answers c (lawful c) (line_up c.interrupts) refl refl in (
       λ u. let a = and_both (lawful c) (line_up c.interrupts) (sym t ∙ u) in let w = (line_up_lem c.interrupts).0 a.1 in (a.0, w.0, w.1),
       λ u. t ∙ both u.0 ((line_up_lem c.interrupts).1 (u.1, u.2)),
     )
@@ -128,8 +131,8 @@ line_is_up c =
     both e f = simp (e, f)
 
 -- and then it gives LEVEL and VECTOR
-pub line_gives : (c : Card) → (Registers.line c).up ≡ true → ((Registers.line c).level ≡ c.interrupts.level) × ((Registers.line c).vector ≡ c.interrupts.vector)
-unfolding Registers.line
+pub line_gives : (c : Card) → Registers.up (Registers.told (Registers.line c)) ≡ true → Registers.line c ≡ Ok (Some (Registers.request c.interrupts.level c.interrupts.vector))
+unfolding Registers.line Registers.line_refusal
 line_gives c u =
-    let e : (lawful c && line_up c.interrupts) ≡ true = sym (told c (lawful c && line_up c.interrupts) refl) ∙ u in
-    (simp e, simp e)
+    let a = and_both (lawful c) (line_up c.interrupts) (sym (answers c (lawful c) (line_up c.interrupts) refl refl) ∙ u) in
+    simp (a.0, a.1)

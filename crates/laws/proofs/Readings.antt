@@ -6,9 +6,12 @@ use mathlib.Core.Bool.{Bool, true, false}
 use mathlib.Core.List.{List, [], ◌∷◌}
 use lib.Dec.{eqb, leb}
 use lib.ListN.{length, get_or}
+use Rattle.std.specs.Prelude.{Ok, Err, ⊤}
 use Rattle.wire.specs.Digits.{pick}
+use Rattle.wire.specs.Numbers.{given, refusal, number_of, given_or}
+use Rattle.wire.specs.declared.numbers.Answer.{Answer}
 use Rattle.wire.specs.Packets.{packet_in}
-use Rattle.wire.specs.Words.{zero_words, time_read, read_words}
+use Rattle.wire.specs.Words.{zero_words, moment, read_words}
 use Rattle.wire.proofs.words.Laws.{five_of, words_five}
 use Rattle.parts.specs.Events.{control_written, opened, matching}
 use Rattle.parts.specs.Interrupts.{with_mask, with_level, with_vector}
@@ -17,12 +20,12 @@ use Rattle.parts.specs.Queues.{empty_queue, queued}
 use Rattle.parts.specs.Settings.{applied}
 use Rattle.parts.proofs.interrupts.Laws.{writes_mask, writes_level, writes_vector}
 use Rattle.card.specs.declared.card.Card.{Card}
-use Rattle.card.specs.declared.card.Answer.{Answer}
-use Rattle.card.specs.Cards.{answer, with_time_latch, with_event, with_interrupts, with_done}
+use Rattle.card.specs.Cards.{answer, with_event, with_interrupts, with_done}
 use Rattle.card.specs.Lawful.{lawful}
 use Rattle.card.specs.Packets.{ack_number, settings_taken, acknowledged}
-use Rattle.card.specs.Registers.{value, words_now, read_refusal, read_register, shown, write_refusal, write_register, written}
+use Rattle.card.specs.Registers.{words_now, read_lines, read_register, shown, write_refusal, write_register, written}
 use Rattle.card.specs.Reset.{reset_card}
+use Rattle.card.proofs.Ack.{ack_told}
 use Rattle.card.proofs.registers.Laws.{time_lawful_lem, words_read}
 use Rattle.laws.specs.Calls.{Call, after, number}
 use Rattle.laws.specs.Readings.{Keeps, five_read}
@@ -33,20 +36,20 @@ use Rattle.laws.proofs.Refused.{accepted_lawful}
 
 -- ---- reading a lawful card
 
-reads : (d : Card) (reg : ℕ) → lawful d ≡ true → read_refusal true reg ≡ 0 → eqb reg 0 ≡ false → read_register d reg ≡ value d 0 (shown d reg)
+reads : (d : Card) (reg : ℕ) → lawful d ≡ true → given (read_lines true reg) ≡ 0 → eqb reg 0 ≡ false → read_register d reg ≡ record { after = d; outcome = Ok (shown d reg) }
 unfolding read_register
-reads d reg l e z = rw (l, e, z)
+reads d reg l e z = rw (l, e, z) refl
 
 -- ---- what was written
 
 module _ (c : Card) (v : ℕ) (l : lawful c ≡ true) where
-  back : (d : Card) (reg x : ℕ) → write_register c reg v ≡ answer d 0 → read_refusal true reg ≡ 0 → eqb reg 0 ≡ false → shown d reg ≡ x
-      → read_register (after (Call.write reg v) c) reg ≡ value (after (Call.write reg v) c) 0 x
+  back : (d : Card) (reg x : ℕ) → write_register c reg v ≡ answer d 0 → given (read_lines true reg) ≡ 0 → eqb reg 0 ≡ false → shown d reg ≡ x
+      → read_register (after (Call.write reg v) c) reg ≡ record { after = after (Call.write reg v) c; outcome = Ok x }
   unfolding after
   back d reg x w e z s =
-      let k : (write_register c reg v).card ≡ d = ap (λ (a : Answer). a.card) w in
+      let k : (write_register c reg v).after ≡ d = ap (λ (a : Answer Card ⊤). a.after) w in
       let m : lawful d ≡ true = sym (ap lawful k) ∙ keeps (Call.write reg v) c l in
-      rw k (reads d reg m e z ∙ ap (value d 0) s)
+      rw k (reads d reg m e z ∙ ap (λ (n : ℕ). record { after = d; outcome = Ok n }) s)
 
   pub control_written_lem : write_register c 11 v ≡ answer (with_event c (control_written c.event v)) 0
   unfolding write_register write_refusal written
@@ -68,8 +71,8 @@ module _ (c : Card) (v : ℕ) (l : lawful c ≡ true) where
   unfolding write_register write_refusal written
   vector_written = simp (l, writes_vector c.interrupts v)
 
-  kept : {reg m : ℕ} → Keeps reg m → read_register (after (Call.write reg v) c) reg ≡ value (after (Call.write reg v) c) 0 (v % m)
-  unfolding read_refusal shown
+  kept : {reg m : ℕ} → Keeps reg m → read_register (after (Call.write reg v) c) reg ≡ record { after = after (Call.write reg v) c; outcome = Ok (v % m) }
+  unfolding shown
   kept Keeps.control = back _ 11 (v % 8) control_written_lem refl refl refl
   kept Keeps.mask = back _ 14 (v % 32) mask_written refl refl refl
   kept Keeps.level = back _ 16 (v % 8) level_written refl refl refl
@@ -77,14 +80,14 @@ module _ (c : Card) (v : ℕ) (l : lawful c ≡ true) where
 
 -- what was written to a register that keeps it reads back, but for bits not named, and reading it changes nothing
 pub register_back : (c : Card) (reg m v : ℕ) → Keeps reg m → number (Call.write reg v) c ≡ 0
-    → read_register (after (Call.write reg v) c) reg ≡ value (after (Call.write reg v) c) 0 (v % m)
+    → read_register (after (Call.write reg v) c) reg ≡ record { after = after (Call.write reg v) c; outcome = Ok (v % m) }
 register_back c reg m v k e = kept c v (accepted_lawful (Call.write reg v) c e) k
 
 -- ---- the count of missed edges
 
 -- register 18 reads as it, of every lawful card, and reading it changes nothing
-pub count_reads : (c : Card) → lawful c ≡ true → read_register c 18 ≡ value c 0 c.event.missed
-unfolding read_refusal shown
+pub count_reads : (c : Card) → lawful c ≡ true → read_register c 18 ≡ record { after = c; outcome = Ok c.event.missed }
+unfolding shown
 count_reads c l = reads c 18 l refl refl
 
 -- ---- latched times
@@ -92,21 +95,21 @@ count_reads c l = reads c 18 l refl refl
 -- five registers of a latch read as its words
 module _ (d : Card) (l : lawful d ≡ true) where
   time_five : five_read d 1 ≡ get_or d.time_latch 0 0 ∷ get_or d.time_latch 1 0 ∷ get_or d.time_latch 2 0 ∷ get_or d.time_latch 3 0 ∷ get_or d.time_latch 4 0 ∷ []
-  unfolding read_register read_refusal shown
+  unfolding read_register shown
   time_five = simp l
 
   pub event_five : five_read d 6 ≡ get_or d.event.latch 0 0 ∷ get_or d.event.latch 1 0 ∷ get_or d.event.latch 2 0 ∷ get_or d.event.latch 3 0 ∷ get_or d.event.latch 4 0 ∷ []
-  unfolding read_register read_refusal shown
+  unfolding read_register shown
   event_five = simp l
 
 -- the words of the card's time, wherever they are kept, are read as that time
 pub time_in : (c : Card) (ws : List ℕ) → lawful c ≡ true → ws ≡ words_now c
-    → read_words (get_or ws 0 0 ∷ get_or ws 1 0 ∷ get_or ws 2 0 ∷ get_or ws 3 0 ∷ get_or ws 4 0 ∷ []) ≡ time_read 0 c.clock.time.day c.clock.time.tick.ticks
+    → read_words (get_or ws 0 0 ∷ get_or ws 1 0 ∷ get_or ws 2 0 ∷ get_or ws 3 0 ∷ get_or ws 4 0 ∷ []) ≡ Ok (moment c.clock.time.day c.clock.time.tick.ticks)
 time_in c ws l e =
     ap read_words (sym (five_of ws (ap length e ∙ words_five c.clock.time.day c.clock.time.tick.ticks)) ∙ e) ∙ words_read c.clock.time (time_lawful_lem c l)
 
 -- TIME0 to TIME4 after a time request
-pub time_reads : (c : Card) → number (Call.read 0) c ≡ 0 → read_words (five_read (after (Call.read 0) c) 1) ≡ time_read 0 c.clock.time.day c.clock.time.tick.ticks
+pub time_reads : (c : Card) → number (Call.read 0) c ≡ 0 → read_words (five_read (after (Call.read 0) c) 1) ≡ Ok (moment c.clock.time.day c.clock.time.tick.ticks)
 time_reads c e =
     let l = accepted_lawful (Call.read 0) c e in
     let d : Card = after (Call.read 0) c in
@@ -114,7 +117,7 @@ time_reads c e =
 
 -- EVENT0 to EVENT4 after a captured edge
 pub event_reads : (c : Card) (falling : Bool) → number (Call.edge falling) c ≡ 0 → matching c.event.control falling ≡ true → c.event.closed ≡ false
-    → read_words (five_read (after (Call.edge falling) c) 6) ≡ time_read 0 c.clock.time.day c.clock.time.tick.ticks
+    → read_words (five_read (after (Call.edge falling) c) 6) ≡ Ok (moment c.clock.time.day c.clock.time.tick.ticks)
 event_reads c falling e t o =
     let l = accepted_lawful (Call.edge falling) c e in
     let d : Card = after (Call.edge falling) c in
@@ -150,18 +153,21 @@ module _ (c : Card) (reg : ℕ) where
       (λ e. by Zero (eqb reg 16) (λ e. refl)
       (λ e. by Zero (eqb reg 17) (λ e. refl) (λ e. refl)))))))))
 
-  read_zero : (read_register d reg).value ≡ 0
+  read_zero : given_or 0 (read_register d reg).outcome ≡ 0
   unfolding read_register
-  read_zero = go (pick (eqb reg 0) (with_time_latch d (words_now d)) d) (eqb (read_refusal (lawful d) reg) 0) (read_refusal (lawful d) reg)
+  read_zero = go (eqb n 0)
     where
-      go : (x : Card) (t : Bool) (n : ℕ) → (pick t (value x 0 (shown d reg)) (value d n 0)).value ≡ 0
-      go x true n = shows_zero
-      go x false n = refl
+      n : ℕ
+      n = given (read_lines (lawful d) reg)
+
+      go : (t : Bool) → given_or 0 (pick t (Ok (shown d reg)) (Err (refusal n))) ≡ 0
+      go true = shows_zero
+      go false = refl
 
 -- every register reads 0
-pub reset_reads : (c : Card) (reg : ℕ) → number Call.reset c ≡ 0 → (read_register (after Call.reset c) reg).value ≡ 0
+pub reset_reads : (c : Card) (reg : ℕ) → number Call.reset c ≡ 0 → given_or 0 (read_register (after Call.reset c) reg).outcome ≡ 0
 unfolding after
-reset_reads c reg e = ap (λ (a : Answer). (read_register a.card reg).value) (reset_answers c (accepted_lawful Call.reset c e)) ∙ read_zero c reg
+reset_reads c reg e = ap (λ (a : Answer Card ⊤). given_or 0 (read_register a.after reg).outcome) (reset_answers c (accepted_lawful Call.reset c e)) ∙ read_zero c reg
 
 -- ---- ACK
 
@@ -173,7 +179,7 @@ module _ (c : Card) (v : ℕ) where
   -- without bit 7: bit 0 clears the done bit, and without either nothing changes
   pub ack_clears : number (Call.write 12 v) c ≡ 0 → bit 128 v ≡ false → after (Call.write 12 v) c ≡ pick (bit 1 v) (with_done c false) c
   unfolding after acknowledged
-  ack_clears e b = ap (λ (a : Answer). a.card) (acks (accepted_lawful (Call.write 12 v) c e)) ∙ rw b
+  ack_clears e b = ap (λ (a : Answer Card ⊤). a.after) (acks (accepted_lawful (Call.write 12 v) c e)) ∙ rw b
 
   -- with it, an accepted packet sets what it says, the queue is empty and the done bit set; what is refused, `Refusals.Excepted` says
   pub ack_takes : number (Call.write 12 v) c ≡ 0 → bit 128 v ≡ true
@@ -181,10 +187,10 @@ module _ (c : Card) (v : ℕ) where
   unfolding number after acknowledged settings_taken
   ack_takes e b =
       let w = acks (accepted_lawful (Call.write 12 v) c e) in
-      let z : ack_number c ≡ 0 = sym (ap (λ (a : Answer). a.number) w ∙ rw b) ∙ e in
+      let z : ack_number c ≡ 0 = sym (ap (λ (a : Answer Card ⊤). number_of a.outcome) w ∙ rw b (ack_told c.jam (queued c.queue) (tt {0}))) ∙ e in
       go w z (bit 1 v) refl
     where
       go : write_register c 12 v ≡ acknowledged c v → ack_number c ≡ 0 → (t : Bool) → bit 1 v ≡ t
-          → ((write_register c 12 v).card.settings ≡ applied (packet_in (queued c.queue)) c.settings) × ((write_register c 12 v).card.queue ≡ empty_queue) × ((write_register c 12 v).card.done ≡ true)
+          → ((write_register c 12 v).after.settings ≡ applied (packet_in (queued c.queue)) c.settings) × ((write_register c 12 v).after.queue ≡ empty_queue) × ((write_register c 12 v).after.done ≡ true)
       go w z true f = rw w (rw (b, f) (rw z (refl, refl, refl)))
       go w z false f = rw w (rw (b, f) (rw z (refl, refl, refl)))

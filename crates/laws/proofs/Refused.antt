@@ -2,7 +2,7 @@
 -- if the card is not lawful. By the cases of Outcomes. Assumes nothing.
 use Prim.Native.Nat.{ℕ, ◌≤◌, ◌<◌}
 use mathlib.Core.Path.{◌≡◌, refl, sym, ap, ◌∙◌}
-use mathlib.Core.Bool.{Bool, true, false, ◌&&◌}
+use mathlib.Core.Bool.{Bool, true, false}
 use mathlib.Core.List.{List, [], ◌∷◌}
 use mathlib.Core.Logic.{◌⊎◌, inl, inr, ⊎_elim, ◌↔◌}
 use native.Mathlib.Nat.{min-eq_left, le_of_lt}
@@ -10,18 +10,20 @@ use native.Mathlib.Omega.{arith}
 use lib.Dec.{eqb}
 use lib.ListN.{length}
 use borrow.Author.Tests.{eqb-false, eqb-true}
+use Rattle.std.specs.Prelude.{None, Result, Ok, Err}
 use Rattle.wire.specs.Digits.{pick}
+use Rattle.wire.specs.Numbers.{number_of, given_or}
+use Rattle.wire.specs.declared.numbers.Refusal.{Refusal}
 use Rattle.wire.proofs.digits.Laws.{clash, lt_or_le}
+use Rattle.wire.proofs.numbers.Names.{given_number}
 use Rattle.card.specs.declared.card.Card.{Card}
 use Rattle.card.specs.declared.blocks.BlockAnswer.{BlockAnswer}
 use Rattle.card.specs.Blocks.{write_block, free}
 use Rattle.card.specs.Lawful.{lawful}
 use Rattle.parts.specs.Queues.{queued}
 use Rattle.card.specs.Registers
-use Rattle.parts.specs.Interrupts.{line_up}
-use Rattle.card.specs.Registers.{read_refusal, read_register}
 use Rattle.card.specs.Waiting
-use Rattle.card.specs.Waiting.{wait_refusal, row_waited}
+use Rattle.card.specs.Waiting.{card_lines, wait_refusal, waited, row_waited}
 use Rattle.card.specs.Saved.{save_refusal, row_saved}
 use Rattle.irig.specs.Writing
 use Rattle.card.proofs.blocks.Laws.{block_18, block_is, block_accepts}
@@ -79,46 +81,40 @@ unlawful_by k c (Outcome.excepted l x e f) u = clash (sym l ∙ u)
 pub unlawful_stays : (k : Call) (c : Card) → lawful c ≡ false → after k c ≡ c
 unlawful_stays k c = unlawful_by k c (outcome k c)
 
--- ---- values and rows, by whether the table gives a number
+-- ---- values and rows
 
-read_beside : (reg : ℕ) (c : Card) (t : Bool) → eqb (read_refusal (lawful c) reg) 0 ≡ t → ((read_register c reg).number ≡ 0 → ⊥) → (read_register c reg).value ≡ 0
-unfolding read_register
-read_beside reg c true e h = absurd (h (simp e))
-read_beside reg c false e h = simp e
+-- an outcome that is not 0 gives what stands beside a refusal
+gives_beside : {A : Type 0} (z : A) (r : Result A Refusal) → (number_of r ≡ 0 → ⊥) → given_or z r ≡ z
+gives_beside z (Ok a) h = absurd (h refl)
+gives_beside z (Err r) h = refl
 
-line_beside : (c : Card) (t : Bool) → lawful c && line_up c.interrupts ≡ t → ((Registers.line c).number ≡ 0 → ⊥) → values Call.line c ≡ 0 ∷ 0 ∷ 0 ∷ []
-unfolding Registers.line values
-line_beside c true e h = absurd (h (simp e))
-line_beside c false e h = simp e
-
-wait_beside : (n : ℕ) (row : List ℕ) (c : Card) (t : Bool) → eqb (wait_refusal c n (length row)) 0 ≡ t → ((Waiting.wait c n (length row)).waited.number ≡ 0 → ⊥)
-    → (values (Call.wait n row) c ≡ 0 ∷ 0 ∷ []) × (row_waited c n row ≡ row)
-unfolding Waiting.wait row_waited values
-wait_beside n row c true e h = absurd (h (simp e))
-wait_beside n row c false e h = (simp e, simp e)
-
-block_beside : (row : List ℕ) (c : Card) (t : Bool) → lawful c ≡ t → ((write_block c row).number ≡ 0 → ⊥) → (write_block c row).taken ≡ pick (lawful c) (free c.queue) 0
+block_beside : (row : List ℕ) (c : Card) (t : Bool) → lawful c ≡ t → (number_of (write_block c row).outcome ≡ 0 → ⊥) → (write_block c row).taken ≡ pick (lawful c) (free c.queue) 0
 block_beside row c true l h =
     let s : free c.queue < length row = ⊎_elim (λ w. w) (λ w. absurd (h (block_accepts c row l w))) (lt_or_le (free c.queue) (length row)) in
     ap (λ (r : BlockAnswer). r.taken) (block_is c row l) ∙ min-eq_left (le_of_lt s) ∙ simp l
-block_beside row c false l h = ap (λ (r : BlockAnswer). r.taken) (sym (block_18 c row (lawful c) refl l)) ∙ simp l
+block_beside row c false l h = ap (λ (r : BlockAnswer). r.taken) (sym (block_18 c row l)) ∙ simp l
 
 row_beside : (n : ℕ) (put row : List ℕ) (t : Bool) → eqb n 0 ≡ t → (n ≡ 0 → ⊥) → pick t put row ≡ row
 row_beside n put row true e h = absurd (h (eqb-true n 0 e))
 row_beside n put row false e h = refl
 
+-- a wait by its table
+wait_beside : (n : ℕ) (row : List ℕ) (c : Card) → (number_of (Waiting.wait c n (length row)).outcome ≡ 0 → ⊥) → row_waited c n row ≡ row
+unfolding Waiting.wait wait_refusal row_waited
+wait_beside n row c h = row_beside (wait_refusal c n (length row)) _ row _ refl (λ e. h (given_number (card_lines c n (length row)) _ refl ∙ e))
+
 -- every value beside a refusal
 pub values_beside : (k : Call) (c : Card) → (number k c ≡ 0 → ⊥) → values k c ≡ beside k c
 unfolding number values beside
 values_beside (Call.set_time year day hour minute second) c h = refl
-values_beside (Call.read reg) c h = ap (λ (v : ℕ). v ∷ []) (read_beside reg c (eqb (read_refusal (lawful c) reg) 0) refl h)
+values_beside (Call.read reg) c h = rw (gives_beside 0 (Registers.read_register c reg).outcome h) refl
 values_beside (Call.write reg v) c h = refl
 values_beside (Call.block row) c h = ap (λ (n : ℕ). n ∷ []) (block_beside row c (lawful c) refl h)
 values_beside (Call.edge falling) c h = refl
-values_beside Call.line c h = line_beside c (lawful c && line_up c.interrupts) refl h
+values_beside Call.line c h = rw (gives_beside None (Registers.line c) h) refl
 values_beside (Call.set_strobe s) c h = refl
 values_beside (Call.set_periodic d) c h = refl
-values_beside (Call.wait n row) c h = (wait_beside n row c (eqb (wait_refusal c n (length row)) 0) refl h).0
+values_beside (Call.wait n row) c h = rw (gives_beside (waited 0 0) (Waiting.wait c n (length row)).outcome h) refl
 values_beside Call.reset c h = refl
 values_beside (Call.save row) c h = refl
 values_beside (Call.load bytes) c h = refl
@@ -136,7 +132,7 @@ row_stays (Call.edge falling) c h = refl
 row_stays Call.line c h = refl
 row_stays (Call.set_strobe s) c h = refl
 row_stays (Call.set_periodic d) c h = refl
-row_stays (Call.wait n row) c h = (wait_beside n row c (eqb (wait_refusal c n (length row)) 0) refl h).1
+row_stays (Call.wait n row) c h = wait_beside n row c h
 row_stays Call.reset c h = refl
 row_stays (Call.save row) c h = row_beside (save_refusal c (length row)) _ row _ refl h
 row_stays (Call.load bytes) c h = refl

@@ -46,7 +46,7 @@ unfolding number after
 save_back c bytes row b e m =
     let l : lawful c ≡ true = accepted_lawful (Call.load bytes) c e in
     let r : saved_refusal bytes ≡ 0 = load_refusal c bytes l e in
-    let k : lawful (load c bytes).card ≡ true = keeps (Call.load bytes) c l in
-    let z : save_refusal (load c bytes).card (length row) ≡ 0 = saves (load c bytes).card (length row) k m in
-    let s : (load c bytes).card.settings ≡ settings_in (unpacked 2 8 bytes) = load_settings_lem c bytes l e in
-    (z, front (load c bytes).card row z ∙ ap saved_form s ∙ save_loaded bytes b r)
+    let k : lawful (load c bytes).after ≡ true = keeps (Call.load bytes) c l in
+    let z : save_refusal (load c bytes).after (length row) ≡ 0 = saves (load c bytes).after (length row) k m in
+    let s : (load c bytes).after.settings ≡ settings_in (unpacked 2 8 bytes) = load_settings_lem c bytes l e in
+    (z, front (load c bytes).after row z ∙ ap saved_form s ∙ save_loaded bytes b r)

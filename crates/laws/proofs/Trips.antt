@@ -7,8 +7,11 @@ use mathlib.Core.Logic.{◌⊎◌, inl, inr, ⊎_elim}
 use native.Mathlib.Nat.{min-le_left, min-eq_left, min-eq_right}
 use native.Mathlib.Omega.{arith}
 use lib.ListN.{length, drop}
+use Rattle.std.specs.Prelude.{Ok, ⊤}
 use Rattle.wire.specs.Digits.{pick}
-use Rattle.wire.specs.Words.{time_read, read_words}
+use Rattle.wire.specs.Numbers.{given_or}
+use Rattle.wire.specs.Words.{moment, read_words}
+use Rattle.wire.specs.declared.numbers.Answer.{Answer}
 use Rattle.wire.proofs.digits.Laws.{and_true, lt_or_le}
 use Rattle.wire.proofs.packets.Laws.{and_false}
 use Rattle.parts.specs.declared.event.Event.{Event}
@@ -16,11 +19,9 @@ use Rattle.parts.specs.Events.{keeps_first, clear_event, control_written, opened
 use Rattle.parts.specs.Pending.{bit}
 use Rattle.parts.proofs.event.Laws.{closed_keeps, bit_written, edge_counts, edge_captures}
 use Rattle.card.specs.declared.card.Card.{Card}
-use Rattle.card.specs.declared.card.Answer.{Answer}
-use Rattle.card.specs.declared.registers.Value.{Value}
 use Rattle.card.specs.Cards.{with_event}
 use Rattle.card.specs.Lawful.{lawful}
-use Rattle.card.specs.Registers.{words_now, read_register, matched}
+use Rattle.card.specs.Registers.{words_now, read_register, value_read, matched}
 use Rattle.card.specs.Reset.{fresh_card}
 use Rattle.card.specs.Waiting.{card_after}
 use Rattle.card.proofs.lawful.Laws.{parts}
@@ -256,14 +257,14 @@ matched_lawful (k ∷ ks) c o =
 -- of a lawful card with an open latch and bit 2 set, over a chain with a matching edge: EVENT0 to EVENT4 read as the time of the first, and register 18 as the count before
 -- plus those that came after it, at most 65,535
 pub first_reads : (ks : List Call) (c d : Card) (ds : List Card) → lawful c ≡ true → Unopened ks c → c.event.closed ≡ false → keeps_first c.event.control ≡ true → matchings ks c ≡ d ∷ ds
-    → (read_words (five_read (after_all ks c) 6) ≡ time_read 0 d.clock.time.day d.clock.time.tick.ticks)
-    × ((read_register (after_all ks c) 18).value ≡ min 65535 (c.event.missed + length ds))
+    → (read_words (five_read (after_all ks c) 6) ≡ Ok (moment d.clock.time.day d.clock.time.tick.ticks))
+    × (value_read (read_register (after_all ks c) 18).outcome ≡ min 65535 (c.event.missed + length ds))
 first_reads ks c d ds k u h b e =
     let f = keeps_first_lem ks c u h b in
     let l = keeps_all ks c k in
     let m = subst AllLawful e (matched_lawful ks c u.none) in (
       ap read_words (event_five (after_all ks c) l) ∙ time_in d (after_all ks c).event.latch m.0 (f.latch ∙ ap (λ (es : List Card). first_words es c.event.latch) e),
-      ap (λ (v : Value). v.value) (count_reads (after_all ks c) l) ∙ f.missed ∙ ap (λ (es : List Card). min 65535 (c.event.missed + length (drop 1 es))) e,
+      ap (λ (a : Answer Card ℕ). given_or 0 a.outcome) (count_reads (after_all ks c) l) ∙ f.missed ∙ ap (λ (es : List Card). min 65535 (c.event.missed + length (drop 1 es))) e,
     )
 
 -- ---- what opens it
@@ -272,17 +273,17 @@ module _ (v : ℕ) (c : Card) where
   -- register 18, by whatever value: the latch is open and the count clear, and nothing else changes
   pub count_opens : number (Call.write 18 v) c ≡ 0 → after (Call.write 18 v) c ≡ with_event c (opened c.event)
   unfolding after
-  count_opens e = ap (λ (a : Answer). a.card) (count_written c v (accepted_lawful (Call.write 18 v) c e))
+  count_opens e = ap (λ (a : Answer Card ⊤). a.after) (count_written c v (accepted_lawful (Call.write 18 v) c e))
 
   -- CONTROL: with bit 2 clear the latch is open and with it set as it was, and the count is kept
   pub control_opens : number (Call.write 11 v) c ≡ 0 → after (Call.write 11 v) c ≡ with_event c (control_written c.event v)
   unfolding after
-  control_opens e = ap (λ (a : Answer). a.card) (control_written_lem c v (accepted_lawful (Call.write 11 v) c e))
+  control_opens e = ap (λ (a : Answer Card ⊤). a.after) (control_written_lem c v (accepted_lawful (Call.write 11 v) c e))
 
 -- reset clears all of it
 pub reset_opens : (c : Card) → number Call.reset c ≡ 0 → (after Call.reset c).event ≡ clear_event
 unfolding after
-reset_opens c e = ap (λ (a : Answer). a.card.event) (reset_answers c (accepted_lawful Call.reset c e))
+reset_opens c e = ap (λ (a : Answer Card ⊤). a.after.event) (reset_answers c (accepted_lawful Call.reset c e))
 
 -- so each of the three leaves it open
 pub opens : (k : Call) (c : Card) → Opens k → number k c ≡ 0 → (after k c).event.closed ≡ false

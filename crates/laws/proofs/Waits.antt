@@ -6,12 +6,14 @@ use mathlib.Core.Bool.{true, false}
 use mathlib.Core.List.{List, [], ◌∷◌}
 use lib.Dec.{leb, eqb, lit<, lit≤}
 use lib.ListN.{length, get_or, take}
+use Rattle.std.specs.Prelude.{⊤}
 use Rattle.wire.specs.Digits.{pick}
+use Rattle.wire.specs.declared.numbers.Answer.{Answer}
 use Rattle.clock.specs.declared.clock.Periodic.TheVariants as Periodic
 use Rattle.clock.specs.declared.setting.StrobeAt.TheVariants as StrobeAt
 use Rattle.clock.specs.declared.setting.Dividers.TheVariants as Dividers
 use Rattle.clock.specs.Clocks.{with_strobe, with_periodic}
-use Rattle.clock.specs.Setting.{time_set, strobe_kept, periodic_kept}
+use Rattle.clock.specs.Setting.{time_lines, time_set, strobe_lines, strobe_kept, divider_lines, periodic_kept}
 use Rattle.clock.specs.Time.{instant}
 use Rattle.clock.specs.Waiting.{records, source_listed, listed, passed, fell, count_later, clock_later}
 use Rattle.clock.proofs.time.Laws.{within_day}
@@ -19,13 +21,13 @@ use Rattle.clock.proofs.waiting.Examples.{page_clock, at_200, at_400, page_date,
 use Rattle.parts.specs.Interrupts.{sources_raised}
 use Rattle.parts.specs.Pending.{raised}
 use Rattle.card.specs.declared.card.Card.{Card}
-use Rattle.card.specs.declared.card.Answer.{Answer}
 use Rattle.card.specs.Cards.{with_clock}
 use Rattle.card.specs.Lawful.{lawful}
 use Rattle.card.specs.Reset.{fresh_card}
 use Rattle.card.specs.Setting.{set_time, set_periodic, set_strobe}
-use Rattle.card.specs.Waiting.{pending_after, card_after, wait_refusal, wait, row_waited}
+use Rattle.card.specs.Waiting.{pending_after, card_after, wait_refusal, row_waited}
 use Rattle.card.proofs.setting.Laws.{sets}
+use Rattle.card.proofs.waiting.Laws.{wait_is}
 use Rattle.laws.specs.Calls.{Call, after}
 use Rattle.laws.specs.Each.{Each}
 use Rattle.laws.specs.Examples.{page_card, PageCard, Wait, Says, Stated, Example, waits}
@@ -56,13 +58,14 @@ module _ (rs : List ℕ) (l : Wait) (k : Computed rs l) (c : Card) (p : PageCard
   passes_ticks = rw (p.clock, k.records) k.passed
 
   says : Says l c
-  unfolding wait row_waited card_after clock_later count_later
+  unfolding row_waited card_after clock_later count_later
   says =
+      let w = wait_is c 10000000 l.places not_refused in
       record {
-        waited = rw (not_refused, lists_row, passes_ticks);
+        waited = rw (w, lists_row, passes_ticks);
         row = λ r e. rw (e, not_refused, lists_row);
-        count = rw (not_refused, passes_ticks, p.clock) (ap (Periodic.Every 2000 2000) k.count);
-        pending = rw (not_refused, lists_row, p.pending) k.pending;
+        count = rw (w, passes_ticks, p.clock) (ap (Periodic.Every 2000 2000) k.count);
+        pending = rw (w, lists_row, p.pending) k.pending;
       }
 
 -- ---- the page's card
@@ -79,21 +82,21 @@ module _ (ms : ℕ) (h : ms ≤ 999) where
 
   time_set_lem : after (Call.set_time 2004 1 0 0 0) fresh_card ≡ timed
   unfolding after set_time
-  time_set_lem = ap (λ (a : Answer). a.card) (sets fresh_card timed _ fresh_lawful page_date)
+  time_set_lem = ap (λ (a : Answer Card ⊤). a.after) (sets fresh_card timed (time_lines 2004 1 0 0 0) fresh_lawful page_date)
 
   timed_lawful : lawful timed ≡ true
   timed_lawful = sym (ap lawful time_set_lem) ∙ keeps_all (Call.set_time 2004 1 0 0 0 ∷ []) fresh_card fresh_lawful
 
   dividers_set : after (Call.set_periodic (Dividers.By 2000 2000)) timed ≡ divided
   unfolding after set_periodic
-  dividers_set = ap (λ (a : Answer). a.card) (sets timed divided _ timed_lawful page_dividers)
+  dividers_set = ap (λ (a : Answer Card ⊤). a.after) (sets timed divided (divider_lines (Dividers.By 2000 2000)) timed_lawful page_dividers)
 
   divided_lawful : lawful divided ≡ true
   divided_lawful = sym (ap lawful dividers_set) ∙ keeps_all (Call.set_periodic (Dividers.By 2000 2000) ∷ []) timed timed_lawful
 
   strobe_set : after (Call.set_strobe (StrobeAt.EachSecond ms)) divided ≡ set
   unfolding after set_strobe
-  strobe_set = ap (λ (a : Answer). a.card) (sets divided set _ divided_lawful (page_strobe ms h))
+  strobe_set = ap (λ (a : Answer Card ⊤). a.after) (sets divided set (strobe_lines (StrobeAt.EachSecond ms)) divided_lawful (page_strobe ms h))
 
   card_set : page_card ms ≡ set
   card_set =

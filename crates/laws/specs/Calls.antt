@@ -1,7 +1,8 @@
 -- All calls that take a card, in the page's order, and writing a frame and switching the jam behind them (the wait in place is the wait, by its contract; `is_lawful`
 -- tells and changes nothing): the card afterwards, the number and the values given back, the lent row afterwards, and, in this one place, the fields that each may touch.
-use Rattle.std.specs.Prelude.{ℕ, ◌^◌, ◌≡◌, Bool, false, ◌||◌, List, [], ◌∷◌, length, eqb}
+use Rattle.std.specs.Prelude.{ℕ, ◌^◌, ◌≡◌, Bool, false, ◌||◌, List, [], ◌∷◌, Option, length, eqb}
 use Rattle.wire.specs.Digits.{pick}
+use Rattle.wire.specs.Numbers.{number_of}
 use Rattle.wire.specs.Packets.{packet_in}
 use Rattle.wire.specs.declared.packets.Packet.{Packet}
 use Rattle.clock.specs.declared.setting.StrobeAt.{StrobeAt}
@@ -12,7 +13,7 @@ use Rattle.parts.specs.Pending.{bit}
 use Rattle.parts.specs.Queues.{queued}
 use Rattle.card.specs.declared.card.Card.{Card}
 use Rattle.card.specs.Packets.{ack_number}
-use Rattle.card.specs.declared.registers.InterruptLine.{InterruptLine}
+use Rattle.card.specs.declared.registers.Request.{Request}
 use Rattle.card.specs.declared.waiting.Waited.{Waited}
 use Rattle.card.specs.Registers
 use Rattle.card.specs.Blocks
@@ -41,55 +42,55 @@ pub data Call : Type 0 where
 
 -- the card afterwards; the line, saving and writing a frame take the card and do not give it back
 unfoldable pub after : Call → Card → Card
-after (Call.set_time year day hour minute second) c = (Setting.set_time c year day hour minute second).card
-after (Call.read reg) c = (Registers.read_register c reg).card
-after (Call.write reg v) c = (Registers.write_register c reg v).card
+after (Call.set_time year day hour minute second) c = (Setting.set_time c year day hour minute second).after
+after (Call.read reg) c = (Registers.read_register c reg).after
+after (Call.write reg v) c = (Registers.write_register c reg v).after
 after (Call.block row) c = (Blocks.write_block c row).card
-after (Call.edge falling) c = (Registers.edge c falling).card
+after (Call.edge falling) c = (Registers.edge c falling).after
 after Call.line c = c
-after (Call.set_strobe s) c = (Setting.set_strobe c s).card
-after (Call.set_periodic d) c = (Setting.set_periodic c d).card
-after (Call.wait n row) c = (Waiting.wait c n (length row)).card
-after Call.reset c = (Reset.reset c).card
+after (Call.set_strobe s) c = (Setting.set_strobe c s).after
+after (Call.set_periodic d) c = (Setting.set_periodic c d).after
+after (Call.wait n row) c = (Waiting.wait c n (length row)).after
+after Call.reset c = (Reset.reset c).after
 after (Call.save row) c = c
-after (Call.load bytes) c = (Saved.load c bytes).card
+after (Call.load bytes) c = (Saved.load c bytes).after
 after (Call.write_frame row) c = c
-after (Call.switch_jam on) c = (Setting.switch_jam c on).card
+after (Call.switch_jam on) c = (Setting.switch_jam c on).after
 
 -- the number given back
 unfoldable pub number : Call → Card → ℕ
-number (Call.set_time year day hour minute second) c = (Setting.set_time c year day hour minute second).number
-number (Call.read reg) c = (Registers.read_register c reg).number
-number (Call.write reg v) c = (Registers.write_register c reg v).number
-number (Call.block row) c = (Blocks.write_block c row).number
-number (Call.edge falling) c = (Registers.edge c falling).number
-number Call.line c = (Registers.line c).number
-number (Call.set_strobe s) c = (Setting.set_strobe c s).number
-number (Call.set_periodic d) c = (Setting.set_periodic c d).number
-number (Call.wait n row) c = (Waiting.wait c n (length row)).waited.number
-number Call.reset c = (Reset.reset c).number
+number (Call.set_time year day hour minute second) c = number_of (Setting.set_time c year day hour minute second).outcome
+number (Call.read reg) c = number_of (Registers.read_register c reg).outcome
+number (Call.write reg v) c = number_of (Registers.write_register c reg v).outcome
+number (Call.block row) c = number_of (Blocks.write_block c row).outcome
+number (Call.edge falling) c = number_of (Registers.edge c falling).outcome
+number Call.line c = number_of (Registers.line c)
+number (Call.set_strobe s) c = number_of (Setting.set_strobe c s).outcome
+number (Call.set_periodic d) c = number_of (Setting.set_periodic c d).outcome
+number (Call.wait n row) c = number_of (Waiting.wait c n (length row)).outcome
+number Call.reset c = number_of (Reset.reset c).outcome
 number (Call.save row) c = Saved.save_refusal c (length row)
-number (Call.load bytes) c = (Saved.load c bytes).number
+number (Call.load bytes) c = number_of (Saved.load c bytes).outcome
 number (Call.write_frame row) c = Writing.write_refusal c (length row)
-number (Call.switch_jam on) c = (Setting.switch_jam c on).number
+number (Call.switch_jam on) c = number_of (Setting.switch_jam c on).outcome
 
 -- the values given back beside card and number
-abbrev line_values : InterruptLine → List ℕ
-line_values l = pick l.up 1 0 ∷ l.level ∷ l.vector ∷ []
+abbrev line_values : Option Request → List ℕ
+line_values o = pick (Registers.up o) 1 0 ∷ (Registers.requested o).level ∷ (Registers.requested o).vector ∷ []
 
 abbrev wait_values : Waited → List ℕ
 wait_values w = w.passed.ticks ∷ w.written ∷ []
 
 unfoldable pub values : Call → Card → List ℕ
 values (Call.set_time year day hour minute second) c = []
-values (Call.read reg) c = (Registers.read_register c reg).value ∷ []
+values (Call.read reg) c = Registers.value_read (Registers.read_register c reg).outcome ∷ []
 values (Call.write reg v) c = []
 values (Call.block row) c = (Blocks.write_block c row).taken ∷ []
 values (Call.edge falling) c = []
-values Call.line c = line_values (Registers.line c)
+values Call.line c = line_values (Registers.told (Registers.line c))
 values (Call.set_strobe s) c = []
 values (Call.set_periodic d) c = []
-values (Call.wait n row) c = wait_values (Waiting.wait c n (length row)).waited
+values (Call.wait n row) c = wait_values (Waiting.told (Waiting.wait c n (length row)).outcome)
 values Call.reset c = []
 values (Call.save row) c = []
 values (Call.load bytes) c = []
@@ -294,4 +295,4 @@ after_all (k ∷ ks) c = after_all ks (after k c)
 -- a card when bytes were written to FIFO, one by one
 abbrev pub fed : Card → List ℕ → Card
 fed c [] = c
-fed c (b ∷ bs) = fed (Registers.write_register c 13 b).card bs
+fed c (b ∷ bs) = fed (Registers.write_register c 13 b).after bs

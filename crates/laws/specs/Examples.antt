@@ -1,8 +1,10 @@
 -- The page's starred examples, one table, of what the public contracts name.
-use Rattle.std.specs.Prelude.{ℕ, ◌≤◌, ◌≡◌, true, false, List, [], ◌∷◌, ◌++◌, map, pos, length, drop}
+use Rattle.std.specs.Prelude.{ℕ, ◌≤◌, ◌≡◌, true, false, List, [], ◌∷◌, ◌++◌, map, pos, Result, Ok, Err, length, drop}
 use Rattle.wire.specs.Digits.{pick}
+use Rattle.wire.specs.Numbers.{refusal, number_of}
+use Rattle.wire.specs.declared.numbers.Refusal.{Refusal}
 use Rattle.wire.specs.Time.{tick_at}
-use Rattle.wire.specs.Words.{time_read, write_words, read_words}
+use Rattle.wire.specs.Words.{moment, moment_read, write_words, read_words}
 use Rattle.wire.specs.Packets.{read_packet}
 use Rattle.wire.specs.declared.packets.Format.TheVariants as Format
 use Rattle.wire.specs.declared.packets.Modulation.TheVariants as Modulation
@@ -52,10 +54,10 @@ pub record Wait : Type 0 where
 
 -- what it says of a card
 pub record Says (l : Wait) (c : Card) : Type 0 where
-  pub waited : (Waiting.wait c 10000000 l.places).waited ≡ Waiting.waited 0 l.passed (length l.row)
+  pub waited : (Waiting.wait c 10000000 l.places).outcome ≡ Ok (Waiting.waited l.passed (length l.row))
   pub row : (r : List ℕ) → length r ≡ l.places → row_waited c 10000000 r ≡ l.row ++ drop (length l.row) r
-  pub count : (Waiting.wait c 10000000 l.places).card.clock.periodic ≡ Periodic.Every 2000 2000 l.count
-  pub pending : (Waiting.wait c 10000000 l.places).card.interrupts.pending ≡ l.pending
+  pub count : (Waiting.wait c 10000000 l.places).after.clock.periodic ≡ Periodic.Every 2000 2000 l.count
+  pub pending : (Waiting.wait c 10000000 l.places).after.interrupts.pending ≡ l.pending
 
 pub data Example : Type 0 where
   -- a day, hour, minute, second and ticks of the second, their tick of day, and their words, both ways
@@ -63,7 +65,7 @@ pub data Example : Type 0 where
   -- words, and the number that refuses them
   unread : List ℕ → ℕ → Example
   -- bytes, and what they read as
-  packet : List ℕ → PacketRead → Example
+  packet : List ℕ → Result PacketRead Refusal → Example
   -- bytes, and the number that ACK gives them, put into the empty queue of any lawful card, with the jam on and with it off
   taken : List ℕ → (on off : ℕ) → Example
   -- settings, calls by which a fresh card comes to have them, and their five bytes, saved by any lawful card that has them, and loaded by any
@@ -74,10 +76,10 @@ pub data Example : Type 0 where
 -- what an example says
 abbrev pub Stated : Example → Type 0
 Stated (words day hour minute second fraction tick ws) =
-    (tick_at hour minute second fraction ≡ tick) × (write_words day tick ≡ record { number = 0; words = ws }) × (read_words ws ≡ time_read 0 day tick)
-Stated (unread ws n) = read_words ws ≡ time_read n 0 0
+    (tick_at hour minute second fraction ≡ tick) × (write_words day tick ≡ Ok ws) × (read_words ws ≡ Ok (moment day tick))
+Stated (unread ws n) = (read_words ws ≡ Err (refusal n)) × (moment_read ws ≡ moment 0 0)
 Stated (packet bytes r) = read_packet bytes ≡ r
-Stated (taken bytes on off) = (c : Card) → lawful c ≡ true → c.queue ≡ empty_queue → (write_register (fed c bytes) 12 0x80).number ≡ pick c.jam on off
+Stated (taken bytes on off) = (c : Card) → lawful c ≡ true → c.queue ≡ empty_queue → number_of (write_register (fed c bytes) 12 0x80).outcome ≡ pick c.jam on off
 Stated (saved s ks bytes) =
     (lawful (after_all ks fresh_card) ≡ true)
     × ((after_all ks fresh_card).settings ≡ s)
@@ -110,11 +112,11 @@ page =
     words 45 13 7 9 1234567 472291234567 (0x0000 ∷ 0x4513 ∷ 0x0709 ∷ 0x1234 ∷ 0x5670 ∷ [])
     ∷ unread (0x0000 ∷ 0x45A3 ∷ 0x0709 ∷ 0x1234 ∷ 0x5670 ∷ []) 17
     ∷ unread (0x0000 ∷ 0x4524 ∷ 0x0709 ∷ 0x1234 ∷ 0x5670 ∷ []) 11
-    ∷ packet offset_bytes (PacketRead.Is (Packet.G (pos 25000)) true)
+    ∷ packet offset_bytes (Ok (record { packet = Packet.G (pos 25000); needs_jam_off = true }))
     ∷ taken offset_bytes 25 0
-    ∷ packet (0x01 ∷ 0x17 ∷ []) (PacketRead.Refused 7)
-    ∷ packet (0x01 ∷ 0x41 ∷ 0x34 ∷ 0x17 ∷ []) (PacketRead.Refused 10)
-    ∷ packet (0x01 ∷ 0x48 ∷ 0x41 ∷ 0x4D ∷ 0x17 ∷ []) (PacketRead.Refused 10)
-    ∷ packet (0x01 ∷ 0x41 ∷ 0x30 ∷ 0x30 ∷ 0x17 ∷ []) (PacketRead.Refused 8)
+    ∷ packet (0x01 ∷ 0x17 ∷ []) (Err (refusal 7))
+    ∷ packet (0x01 ∷ 0x41 ∷ 0x34 ∷ 0x17 ∷ []) (Err (refusal 10))
+    ∷ packet (0x01 ∷ 0x48 ∷ 0x41 ∷ 0x4D ∷ 0x17 ∷ []) (Err (refusal 10))
+    ∷ packet (0x01 ∷ 0x41 ∷ 0x30 ∷ 0x30 ∷ 0x17 ∷ []) (Err (refusal 8))
     ∷ saved page_settings page_calls (0x06 ∷ 0x00 ∷ 0x18 ∷ 0x6A ∷ 0x00 ∷ [])
     ∷ map wait waits

@@ -1,9 +1,10 @@
 -- The bench's listing: standard input cut into pieces, and for each piece its number and the answer of a fresh card of its own.
-use Rattle.std.specs.Prelude.{ℕ, zero, suc, ◌+◌, ◌-◌, ◌≤◌, ◌<◌, ◌≡◌, Bool, true, false, ◌&&◌, ◌||◌, List, [], ◌∷◌, ◌++◌, ◌⊎◌, length, take, drop, get_or, replicate, leb, ltb, eqb}
+use Rattle.std.specs.Prelude.{ℕ, suc, ◌+◌, ◌-◌, ◌≤◌, ◌<◌, ◌≡◌, Bool, true, false, ◌&&◌, ◌||◌, List, [], ◌∷◌, ◌++◌, ◌⊎◌, length, take, drop, get_or, replicate, leb, ltb, eqb, Option, None, Some}
 use Rattle.wire.specs.Digits.{pick, digits, num, below}
 use Rattle.wire.specs.Packets.{ascii, has}
 use Rattle.parts.specs.declared.queue.Queue.{Queue}
 use Rattle.parts.specs.Queues.{queued}
+use Rattle.wire.specs.Numbers.{number_of}
 use Rattle.card.specs.declared.card.Card.{Card}
 use Rattle.card.specs.Packets.{ack_refusal}
 use Rattle.card.specs.Registers.{write_register}
@@ -43,7 +44,7 @@ last_piece (b ∷ bs) = (b ∷ bs) ∷ []
 
 -- what writing 0x80 to ACK answers, on a fresh card with a piece in its queue
 unfoldable pub answer_of : List ℕ → ℕ
-answer_of piece = (write_register (fed fresh_card piece) 12 0x80).number
+answer_of piece = number_of (write_register (fed fresh_card piece) 12 0x80).outcome
 
 -- LINES
 
@@ -215,18 +216,18 @@ pub record PutLine (before : List ℕ) (at n answer : ℕ) (after : List ℕ) (r
   pub short : r ≤ at + 25
 
 -- one byte further on, if anywhere
-abbrev pub onward : ℕ → ℕ
-onward zero = 0
-onward (suc n) = suc (suc n)
+abbrev pub onward : Option ℕ → Option ℕ
+onward None = None
+onward (Some n) = Some (suc n)
 
--- how many bytes at an input's front end the piece of which k are held, 0 if it does not end there
-unfoldable pub end_of : ℕ → List ℕ → ℕ
-end_of k [] = 0
-end_of k (b ∷ bs) = pick (ends_at k b) 1 (onward (end_of (suc k) bs))
+-- how many bytes at an input's front end the piece of which k are held, if it ends there
+unfoldable pub end_of : ℕ → List ℕ → Option ℕ
+end_of k [] = None
+end_of k (b ∷ bs) = pick (ends_at k b) (Some 1) (onward (end_of (suc k) bs))
 
--- how many bytes the next piece has, where none is begun: 0 if it does not end in the input, or if there is no number or no room for its line
-unfoldable pub next_end : ℕ → ℕ → List ℕ → ℕ
-next_end n room input = pick (goes_on n room) (end_of 0 input) 0
+-- how many bytes the next piece has, where none is begun, if it ends in the input and there are a number and room for its line
+unfoldable pub next_end : ℕ → ℕ → List ℕ → Option ℕ
+next_end n room input = pick (goes_on n room) (end_of 0 input) None
 
 -- lines of pieces were put at a place, numbered from n on; m is the next number, and w the place behind them
 pub record Lined (n : ℕ) (before : List ℕ) (at : ℕ) (after : List ℕ) (m w : ℕ) (ps : List (List ℕ)) : Type 0 where
@@ -247,12 +248,19 @@ pub record ListsOn (input : List ℕ) (k n : ℕ) (before : List ℕ) (at : ℕ)
   pub behind : ℕ
   pub taken : r.taken ≡ k + behind
   pub going : Going (take k input ∷ []) n (drop k input) before at after r.number r.written behind
-  pub over : next_end r.number (length before - r.written) (drop (k + behind) input) ≡ 0
+  pub over : next_end r.number (length before - r.written) (drop (k + behind) input) ≡ None
 
--- the same, or nothing if k is 0
-pub record Lists (input : List ℕ) (k n : ℕ) (before : List ℕ) (at : ℕ) (after : List ℕ) (r : Reached) : Type 0 where
-  pub none : k ≡ 0 → (after ≡ before) × (r ≡ record { taken = 0; number = n; written = at })
-  pub some : 0 < k → ListsOn input k n before at after r
+-- a place within a row, and where the piece at an input's front has k bytes, that it has some, that they are there, and a number and room for its line
+pub record Begins (input : List ℕ) (front : Option ℕ) (n : ℕ) (before : List ℕ) (at : ℕ) : Type 0 where
+  pub place : at ≤ length before
+  pub some : (k : ℕ) → front ≡ Some k → 0 < k
+  pub within : (k : ℕ) → front ≡ Some k → k ≤ length input
+  pub goes : (k : ℕ) → front ≡ Some k → goes_on n (length before - at) ≡ true
+
+-- the same, or nothing if no piece is at the front
+pub record Lists (input : List ℕ) (front : Option ℕ) (n : ℕ) (before : List ℕ) (at : ℕ) (after : List ℕ) (r : Reached) : Type 0 where
+  pub none : front ≡ None → (after ≡ before) × (r ≡ record { taken = 0; number = n; written = at })
+  pub some : (k : ℕ) → front ≡ Some k → ListsOn input k n before at after r
 
 -- the bytes of a queue were listed as one piece
 pub record ListsHeld (q : Queue) (n : ℕ) (before after : List ℕ) (r : Reached) : Type 0 where

@@ -1,16 +1,18 @@
 // Feeding an input part by part: each piece to FIFO of its own fresh card, and then 0x80 to ACK. What is not at its end is held in a card's queue.
-ghost use Rattle.std.specs.Prelude.{◌≡◌, true, [], ◌-◌, ◌≤◌, ◌<◌, length};
+ghost use Rattle.std.specs.Prelude.{◌≡◌, true, [], ◌≤◌, length};
+ghost use Rattle.wire.specs.Numbers.{number_of};
 ghost use Rattle.card.specs.Registers.{write_register};
 ghost use Rattle.card.specs.Reset.{fresh_card};
 ghost use Rattle.laws.specs.Calls.{fed};
-ghost use Rattle.listing.specs.Listing.{ends_at, goes_on, bench_of, end_of, next_end, Held, Refilled, Lists, ListsHeld, FeedsWhole, Feeds, Feeding, Finishing};
+ghost use Rattle.listing.specs.Listing.{goes_on, bench_of, end_of, next_end, Held, Refilled, Begins, Lists, ListsHeld, FeedsWhole, Feeds, Feeding, Finishing};
 
-use crate::lines::{count_up, digits_of, first_of, put_line};
+use crate::lines::Numeral;
 use card::blocks::write_block;
 use card::card::Card;
 use card::registers::write_register;
 use card::reset::fresh_card;
-use parts::queue::Queue;
+use parts::queue::{Queue, empty_queue};
+use wire::numbers::number_of;
 
 // The number of the first piece.
 const FIRST_NUMBER: u64 = 1;
@@ -44,10 +46,7 @@ pub fn start() -> Bench
     ensures { result ≡ bench_of [] 1 }
 {
     Bench {
-        queue: Queue {
-            bytes: [0; 64],
-            fill: 0,
-        },
+        queue: empty_queue(),
         number: FIRST_NUMBER,
     }
 }
@@ -56,18 +55,14 @@ pub fn start() -> Bench
 fn hold(card: Card, bytes: &[u8]) -> Card
     ensures { Held card bytes.now result }
 {
-    let b = write_block(card, bytes);
-    let c = b.card;
-    c
+    write_block(card, bytes).card
 }
 
 // What writing 0x80 to ACK answers, of a card that a piece was written to.
 fn answer_of(fresh: Card, piece: &[u8]) -> u8
-    ensures { result ≡ (write_register (fed fresh piece.now) 12 0x80).number }
+    ensures { result ≡ number_of (write_register (fed fresh piece.now) 12 0x80).outcome }
 {
-    let card = hold(fresh, piece);
-    let a = write_register(card, 12, 0x80);
-    a.number
+    number_of(&write_register(hold(fresh, piece), 12, 0x80).outcome)
 }
 
 // A fresh card with the bytes of a queue written to it.
@@ -75,97 +70,94 @@ fn refill(queue: Queue) -> Card
     requires { queue.fill ≤ 40 }
     ensures { Refilled queue result }
 {
-    let bytes = queue.bytes;
-    let from: usize = 0;
-    let fill = queue.fill;
-    hold(fresh_card(), &bytes[from..fill])
+    hold(fresh_card(), &queue.bytes[..queue.fill])
 }
 
-// Whether a byte ends the piece of which so many bytes are held.
-fn is_last(held: usize, b: u8) -> bool
-    ensures { result ≡ ends_at held b }
-{
-    if b == 0x17 {
-        return true;
-    }
-    held == 40
-}
-
-// How many bytes at an input's front end the piece of which so many are held, 0 if it does not end there.
-fn end_of(held: usize, input: &[u8]) -> usize
+// How many bytes at an input's front end the piece of which so many are held, if it ends there: up to the first 0x17, or to the 41st byte.
+#[tactic(auto, using(crate::proofs::feeding::Ends::found_none))]
+fn end_of(held: usize, input: &[u8]) -> Option<usize>
     requires { held ≤ 40 }
     ensures { result ≡ end_of held input.now }
 {
-    let mut i: usize = 0;
-    while i < input.len() {
-        if is_last(held + i, input[i]) {
-            return i + 1;
-        }
-        i += 1;
+    let front = &input[..input.len().min(41 - held)];
+    match front.iter().position(|&b| b == 0x17) {
+        Some(i) => Some(i + 1),
+        None if held + front.len() == 41 => Some(front.len()),
+        None => None,
     }
-    0
 }
 
 // Whether there is a number for one more piece, and room for its line.
+#[tactic(auto, unfolding(crate::specs::Listing::goes_on))]
 fn goes_on(number: u64, room: usize) -> bool
     ensures { result ≡ goes_on number room }
 {
-    if number == u64::MAX {
-        return false;
-    }
-    25 <= room
+    number < u64::MAX && 25 <= room
 }
 
-// How many bytes the next piece has, where none is begun: 0 if it does not end in the input, or if there is no number or no room for its line.
-fn next_end(input: &[u8], number: u64, room: usize) -> usize
+// How many bytes the next piece has, where none is begun, if it ends in the input and there are a number and room for its line.
+#[tactic(auto, unfolding(crate::specs::Listing::next_end))]
+fn next_end(input: &[u8], number: u64, room: usize) -> Option<usize>
     ensures { result ≡ next_end number room input.now }
 {
     if goes_on(number, room) {
-        return end_of(0, input);
+        end_of(0, input)
+    } else {
+        None
     }
-    0
 }
 
 // Puts the line of the piece at an input's front, which has so many bytes, and those of the pieces behind it. The fresh card is handed in, so that no piece makes
 // its own.
-fn list(fresh: Card, input: &[u8], front: usize, number: u64, row: &mut [u8], at: usize) -> Reached
-    requires { (fresh ≡ fresh_card) × (front ≤ length input.now) × (at ≤ length row.old) × (0 < front → goes_on number (length row.old - at) ≡ true) }
+fn list(
+    fresh: Card,
+    input: &[u8],
+    front: Option<usize>,
+    number: u64,
+    row: &mut [u8],
+    at: usize,
+) -> Reached
+    requires { (fresh ≡ fresh_card) × Begins input.now front number row.old at }
     ensures { Lists input.now front number row.old at row.new result }
 {
-    let mut digits = digits_of(number);
-    let mut first = first_of(&digits);
-    let mut next = number;
+    let mut numeral = Numeral::of(number);
+    let mut number = number;
     let mut written = at;
-    let mut i: usize = 0;
-    let mut n = front;
-    while 0 < n {
-        let end = i + n;
-        let answer = answer_of(fresh, &input[i..end]);
-        written = put_line(&digits, first, answer, row, written);
-        first = count_up(&mut digits, first);
-        next += 1;
-        i = end;
-        n = next_end(&input[i..], next, row.len() - written);
+    let mut taken = 0;
+    let mut next = front;
+    // Each step is as long as the piece that it finds, so no iterator gives the pieces.
+    while let Some(n) = next {
+        let end = taken + n;
+        let answer = answer_of(fresh, &input[taken..end]);
+        written = numeral.put_line(answer, row, written);
+        numeral.count_up();
+        number += 1;
+        taken = end;
+        next = next_end(&input[taken..], number, row.len() - written);
     }
     Reached {
-        taken: i,
-        number: next,
-        written: written,
+        taken,
+        number,
+        written,
     }
 }
 
 // The answer of feeding, where a card holds the bytes of the piece that is not at its end.
-fn stop(card: Card, number: u64, taken: usize, written: usize) -> Fed
-    ensures { result ≡ record { bench = record { queue = card.queue; number = number }; taken = taken; written = written } }
+fn stop(card: Card, reached: Reached) -> Fed
+    ensures { result ≡ record { bench = record { queue = card.queue; number = reached.number }; taken = reached.taken; written = reached.written } }
 {
-    let queue = card.queue;
+    let Reached {
+        taken,
+        number,
+        written,
+    } = reached;
     Fed {
         bench: Bench {
-            queue: queue,
-            number: number,
+            queue: card.queue,
+            number,
         },
-        taken: taken,
-        written: written,
+        taken,
+        written,
     }
 }
 
@@ -175,14 +167,19 @@ fn feed_whole(number: u64, input: &[u8], row: &mut [u8], at: usize) -> Fed
     ensures { FeedsWhole number input.now row.old at row.new result }
 {
     let fresh = fresh_card();
-    let n = next_end(input, number, row.len() - at);
-    let listed = list(fresh, input, n, number, row, at);
-    let taken = listed.taken;
-    if goes_on(listed.number, row.len() - listed.written) {
-        let card = hold(fresh, &input[taken..]);
-        return stop(card, listed.number, input.len(), listed.written);
+    let front = next_end(input, number, row.len() - at);
+    let listed = list(fresh, input, front, number, row, at);
+    if !goes_on(listed.number, row.len() - listed.written) {
+        return stop(fresh, listed);
     }
-    stop(fresh, listed.number, taken, listed.written)
+    let card = hold(fresh, &input[listed.taken..]);
+    stop(
+        card,
+        Reached {
+            taken: input.len(),
+            ..listed
+        },
+    )
 }
 
 // Puts the line of the bytes that a queue holds, as one piece, if there are any.
@@ -190,10 +187,15 @@ fn list_held(queue: Queue, number: u64, row: &mut [u8]) -> Reached
     requires { (queue.fill ≤ 64) × (goes_on number (length row.old) ≡ true) }
     ensures { ListsHeld queue number row.old row.new result }
 {
-    let bytes = queue.bytes;
-    let from: usize = 0;
-    let fill = queue.fill;
-    list(fresh_card(), &bytes[from..fill], fill, number, row, 0)
+    let front = (0 < queue.fill).then_some(queue.fill);
+    list(
+        fresh_card(),
+        &queue.bytes[..queue.fill],
+        front,
+        number,
+        row,
+        0,
+    )
 }
 
 // Feeding, of a bench that holds no more than a piece can.
@@ -201,26 +203,35 @@ fn feed_held(bench: Bench, input: &[u8], row: &mut [u8]) -> Fed
     requires { bench.queue.fill ≤ 40 }
     ensures { Feeds bench input.now row.old row.new result }
 {
-    let queue = bench.queue;
-    let card = refill(queue);
-    if !goes_on(bench.number, row.len()) {
-        return stop(card, bench.number, 0, 0);
+    let number = bench.number;
+    let card = refill(bench.queue);
+    if !goes_on(number, row.len()) {
+        return stop(
+            card,
+            Reached {
+                taken: 0,
+                number,
+                written: 0,
+            },
+        );
     }
-    let n = end_of(queue.fill, input);
-    if n == 0 {
+    let Some(n) = end_of(bench.queue.fill, input) else {
         let card = hold(card, input);
-        return stop(card, bench.number, input.len(), 0);
-    }
-    let from: usize = 0;
-    let card = hold(card, &input[from..n]);
-    let queue = card.queue;
-    let listed = list_held(queue, bench.number, row);
+        return stop(
+            card,
+            Reached {
+                taken: input.len(),
+                number,
+                written: 0,
+            },
+        );
+    };
+    let card = hold(card, &input[..n]);
+    let listed = list_held(card.queue, number, row);
     let fed = feed_whole(listed.number, &input[n..], row, listed.written);
-    let bench = fed.bench;
     Fed {
-        bench: bench,
         taken: n + fed.taken,
-        written: fed.written,
+        ..fed
     }
 }
 
@@ -230,7 +241,7 @@ pub fn feed(bench: Bench, input: &[u8], row: &mut [u8]) -> Fed
 {
     if 40 < bench.queue.fill {
         return Fed {
-            bench: bench,
+            bench,
             taken: 0,
             written: 0,
         };
@@ -239,16 +250,12 @@ pub fn feed(bench: Bench, input: &[u8], row: &mut [u8]) -> Fed
 }
 
 // Puts the line of the last rest, if there is one, at the front of the row. Answers the bytes written.
+#[tactic(auto, using(crate::proofs::feeding::Whole::last_none, crate::proofs::feeding::Whole::last_long, crate::proofs::feeding::Whole::last_off))]
 pub fn finish(bench: Bench, row: &mut [u8]) -> usize
     ensures { Finishing bench row.old row.new result }
 {
-    let queue = bench.queue;
-    if 40 < queue.fill {
+    if 40 < bench.queue.fill || !goes_on(bench.number, row.len()) {
         return 0;
     }
-    if !goes_on(bench.number, row.len()) {
-        return 0;
-    }
-    let listed = list_held(queue, bench.number, row);
-    listed.written
+    list_held(bench.queue, bench.number, row).written
 }

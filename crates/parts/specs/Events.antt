@@ -1,5 +1,5 @@
 -- The event input: CONTROL, the event latch, closed or open, and the count of missed edges; and what the words of a latch must be, of either latch.
-use Rattle.std.specs.Prelude.{ℕ, ◌+◌, ◌%◌, min, Bool, false, ◌&&◌, ◌||◌, not, List, ltb, eqb}
+use Rattle.std.specs.Prelude.{ℕ, ◌+◌, ◌%◌, min, Bool, false, ◌&&◌, ◌||◌, not, List, ltb, is_ok}
 use Rattle.wire.specs.Digits.{below, pick}
 use Rattle.wire.specs.Words.{zero_words, read_words}
 use Rattle.parts.specs.declared.event.Event.{Event}
@@ -15,7 +15,7 @@ clear_event = record { control = 0; closed = false; missed = 0; latch = zero_wor
 
 -- 18: latch words are all zero, or readable
 unfoldable pub latch_lawful : List ℕ → Bool
-latch_lawful ws = below 1 ws || eqb (read_words ws).number 0
+latch_lawful ws = below 1 ws || is_ok (read_words ws)
 
 -- control bits 0 to 2, and a closed latch only with bit 2 set
 unfoldable pub control_lawful : ℕ → Bool → Bool

@@ -1,5 +1,5 @@
 -- Pending bits, by their weights: 1 event, 2 periodic, 4 strobe, 8 second, 16 output packet.
-use Rattle.std.specs.Prelude.{ℕ, ◌+◌, ◌-◌, ◌/◌, ◌%◌, ◌^◌, ◌≤◌, ◌<◌, ◌≡◌, Bool, true, ◌&&◌, ◌||◌, eqb}
+use Rattle.std.specs.Prelude.{ℕ, ◌+◌, ◌-◌, ◌/◌, ◌%◌, ◌^◌, ◌<◌, ◌≡◌, Bool, true, ◌&&◌, ◌||◌, eqb}
 use Rattle.wire.specs.Digits.{pick}
 
 -- the bit of weight w is set
@@ -29,10 +29,3 @@ pub record Shared (a b : ℕ) : Type 0 where
   pub within : place < 5
   pub first : bit (2 ^ place) a ≡ true
   pub second : bit (2 ^ place) b ≡ true
-
--- WITHIN THE CRATE
-
--- w is the weight of a bit of a byte: added to a byte without that bit, it gives a byte
-pub record BitOfByte (w : ℕ) : Type 0 where
-  pub above : 0 < w
-  pub fits : (b : ℕ) → b ≤ 255 → b / w % 2 ≡ 0 → b + w ≤ 255

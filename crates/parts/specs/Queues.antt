@@ -1,5 +1,5 @@
 -- The input queue: bytes, and zeros behind them.
-use Rattle.std.specs.Prelude.{ℕ, ◌+◌, Bool, ◌&&◌, List, [], ◌∷◌, take, drop, set, replicate, leb}
+use Rattle.std.specs.Prelude.{ℕ, ◌+◌, Bool, ◌&&◌, List, take, drop, set, replicate, leb}
 use Rattle.wire.specs.Digits.{below}
 use Rattle.parts.specs.declared.queue.Queue.{Queue}
 
@@ -18,10 +18,3 @@ enqueued q b = record { bytes = set q.bytes q.fill b; fill = q.fill + 1 }
 -- 18: no more than 64 bytes, and zeros behind them
 unfoldable pub queue_lawful : Queue → Bool
 queue_lawful q = leb q.fill 64 && below 1 (drop q.fill q.bytes)
-
--- WITHIN THE CRATE
-
--- what bytes add up to
-unfoldable pub total : List ℕ → ℕ
-total [] = 0
-total (b ∷ bs) = b + total bs

@@ -1,5 +1,5 @@
 -- Saved settings: five bytes, fields highest bit first.
-use Rattle.std.specs.Prelude.{ℕ, Bool, ◌&&◌, not, List, [], ◌∷◌, ◌++◌, length, take, drop, replicate, ℤ, pos, negsuc, neg_ℤ, nat_abs, leb, ltb, eqb}
+use Rattle.std.specs.Prelude.{ℕ, Bool, ◌&&◌, not, Option, Some, None, List, [], ◌∷◌, ◌++◌, length, take, drop, replicate, ℤ, pos, negsuc, neg_ℤ, nat_abs, leb, ltb, eqb, ◌≡◌, refl}
 use Rattle.wire.specs.Digits.{pick, digits, num, below, packed, unpacked}
 use Rattle.wire.specs.Numbers.{Line, ◌if◌, given}
 use Rattle.wire.specs.declared.packets.Format.{Format}
@@ -7,7 +7,6 @@ use Rattle.wire.specs.declared.packets.Modulation.{Modulation}
 use Rattle.wire.specs.declared.packets.ClockSource.{ClockSource}
 use Rattle.wire.specs.declared.packets.Generator.{Generator}
 use Rattle.parts.specs.declared.settings.Settings.{Settings}
-use Rattle.parts.specs.declared.saved.SettingsRead.{SettingsRead}
 use Rattle.parts.specs.Settings.{settings_lawful}
 
 -- THE FIELDS
@@ -58,7 +57,7 @@ saved_form s = packed 2 8 5 (settings_bits s ++ replicate 6 0)
 unfoldable pub bits_at : ℕ → ℕ → List ℕ → ℕ
 bits_at i k bits = num 2 (take k (drop i bits))
 
-unfoldable pub format_of_number : ℕ → Format
+abbrev pub format_of_number : ℕ → Format
 format_of_number n = pick (eqb n 0) Format.A (pick (eqb n 1) Format.B (pick (eqb n 2) Format.C (pick (eqb n 3) Format.N Format.X)))
 
 -- what the bits say
@@ -101,17 +100,17 @@ row_put s row = pick (eqb (put_refusal s (length row)) 0) (saved_form s ++ drop 
 -- LOADING
 
 -- what bytes are loaded as: settings, or nothing
-unfoldable pub read_saved : List ℕ → SettingsRead
-read_saved bytes = pick (eqb (saved_refusal bytes) 0) (SettingsRead.Is (settings_in (unpacked 2 8 bytes))) SettingsRead.Refused
+unfoldable pub read_saved : List ℕ → Option Settings
+read_saved bytes = pick (eqb (saved_refusal bytes) 0) (Some (settings_in (unpacked 2 8 bytes))) None
 
 -- the answer as the page has it: its number, and the settings of a card that has these, which stay beside a refusal
-abbrev pub number_loaded : SettingsRead → ℕ
-number_loaded (SettingsRead.Is s) = 0
-number_loaded SettingsRead.Refused = 19
+abbrev pub number_loaded : Option Settings → ℕ
+number_loaded (Some s) = 0
+number_loaded None = 19
 
-abbrev pub settings_loaded : Settings → SettingsRead → Settings
-settings_loaded these (SettingsRead.Is s) = s
-settings_loaded these SettingsRead.Refused = these
+abbrev pub settings_loaded : Settings → Option Settings → Settings
+settings_loaded these (Some s) = s
+settings_loaded these None = these
 
 -- WITHIN THE CRATE
 
@@ -128,6 +127,26 @@ generator_of_bit n = pick (eqb n 1) Generator.H Generator.B
 abbrev pub offset_of_bits : ℕ → ℕ → ℤ
 offset_of_bits sign size = pick (eqb sign 1) (neg_ℤ (pos size)) (pos size)
 
+-- what a setting is saved as says that setting
+pub format_back : (f : Format) → format_of_number (format_number f) ≡ f
+format_back Format.A = refl
+format_back Format.B = refl
+format_back Format.C = refl
+format_back Format.N = refl
+format_back Format.X = refl
+
+pub modulation_back : (m : Modulation) → modulation_of_bit (modulation_bit m) ≡ m
+modulation_back Modulation.M = refl
+modulation_back Modulation.D = refl
+
+pub clock_back : (c : ClockSource) → clock_of_bit (clock_bit c) ≡ c
+clock_back ClockSource.External = refl
+clock_back ClockSource.Internal = refl
+
+pub generator_back : (g : Generator) → generator_of_bit (generator_bit g) ≡ g
+generator_back Generator.B = refl
+generator_back Generator.H = refl
+
 -- what forty bits are loaded as
-unfoldable pub read_bits : List ℕ → SettingsRead
-read_bits bits = pick (meaningful bits) (SettingsRead.Is (settings_in bits)) SettingsRead.Refused
+unfoldable pub read_bits : List ℕ → Option Settings
+read_bits bits = pick (meaningful bits) (Some (settings_in bits)) None

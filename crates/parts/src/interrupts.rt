@@ -2,10 +2,10 @@
 ghost use Rattle.std.specs.Prelude.{◌≡◌};
 ghost use Rattle.parts.specs.Interrupts.{with_pending, interrupts_lawful, interrupts_written, event_raised, sources_raised, line_up};
 
-use crate::pending::{clear, raise, some_meet};
+use crate::pending::{clear, some_meet, with_event, with_sources};
 
 // MASK, the pending bits, LEVEL and VECTOR.
-#[derive(Clone, Copy)]
+#[derive(Clone, Copy, Debug, PartialEq, Eq)]
 pub struct Interrupts {
     pub mask: u8,
     pub pending: u8,
@@ -14,41 +14,47 @@ pub struct Interrupts {
 }
 
 // Whether they are lawful: mask and pending bits 0 to 4, level bits 0 to 2.
+#[tactic(auto, unfolding(crate::specs::Interrupts::interrupts_lawful))]
 pub fn interrupts_fit(i: Interrupts) -> bool
     ensures { result ≡ interrupts_lawful i }
 {
-    if 32 <= i.mask {
-        return false;
-    }
-    if 32 <= i.pending {
-        return false;
-    }
-    i.level < 8
+    i.mask < 32 && i.pending < 32 && i.level < 8
 }
 
 // The interrupt registers after writing one of them: MASK, INTSTAT, LEVEL or VECTOR. A register of any other number leaves them.
+#[tactic(auto, unfolding(crate::specs::Interrupts::interrupts_written))]
 pub fn write_interrupts(interrupts: Interrupts, reg: u8, value: u16) -> Interrupts
     ensures { result ≡ interrupts_written interrupts reg value }
 {
-    let mut i = interrupts;
     match reg {
-        14 => i.mask = (value % 32) as u8,
-        15 => i.pending = clear(value, interrupts.pending),
-        16 => i.level = (value % 8) as u8,
-        17 => i.vector = (value % 256) as u8,
-        _ => {}
+        14 => Interrupts {
+            mask: (value % 32) as u8,
+            ..interrupts
+        },
+        15 => Interrupts {
+            pending: clear(value, interrupts.pending),
+            ..interrupts
+        },
+        16 => Interrupts {
+            level: (value % 8) as u8,
+            ..interrupts
+        },
+        17 => Interrupts {
+            vector: (value % 256) as u8,
+            ..interrupts
+        },
+        _ => interrupts,
     }
-    i
 }
 
 // The same with the pending bit of an event raised.
 pub fn raise_event(interrupts: Interrupts) -> Interrupts
     ensures { result ≡ event_raised interrupts }
 {
-    let pending = raise(interrupts.pending, 1, true);
-    let mut i = interrupts;
-    i.pending = pending;
-    i
+    Interrupts {
+        pending: with_event(interrupts.pending),
+        ..interrupts
+    }
 }
 
 // The same with the pending bits of the sources that fell raised.
@@ -60,20 +66,16 @@ pub fn raise_sources(
 ) -> Interrupts
     ensures { result ≡ with_pending interrupts (sources_raised periodic strobe second interrupts.pending) }
 {
-    let pending = raise(interrupts.pending, 8, second);
-    let pending = raise(pending, 4, strobe);
-    let pending = raise(pending, 2, periodic);
-    let mut i = interrupts;
-    i.pending = pending;
-    i
+    Interrupts {
+        pending: with_sources(interrupts.pending, periodic, strobe, second),
+        ..interrupts
+    }
 }
 
 // Whether LEVEL is not 0 and some pending bit is also set in MASK.
+#[tactic(auto, unfolding(crate::specs::Interrupts::line_up))]
 pub fn is_up(i: Interrupts) -> bool
     ensures { result ≡ line_up i }
 {
-    if i.level == 0 {
-        return false;
-    }
-    some_meet(i.pending, i.mask)
+    i.level != 0 && some_meet(i.pending, i.mask)
 }

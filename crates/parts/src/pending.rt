@@ -1,70 +1,36 @@
-// Pending bits, one at a time, by their weights.
-ghost use Rattle.std.specs.Prelude.{◌≡◌, ◌&&◌, ◌<◌};
-ghost use Rattle.parts.specs.Pending.{bit, raised, lowered, cleared, meet, BitOfByte};
+// Pending bits: 0 event, 1 periodic, 2 strobe, 3 second, 4 output packet.
+ghost use Rattle.std.specs.Prelude.{◌≡◌, true};
+ghost use Rattle.parts.specs.Interrupts.{sources_raised};
+ghost use Rattle.parts.specs.Pending.{raised, cleared, meet};
 
-// Pending bits with the one of a weight raised if the test holds.
-pub(crate) fn raise(pending: u8, weight: u8, test: bool) -> u8
-    requires { BitOfByte weight }
-    ensures { result ≡ raised weight test pending }
+// Pending bits with that of an event raised.
+#[tactic(auto, using(crate::proofs::pending::Bits::event_by_or))]
+pub(crate) fn with_event(pending: u8) -> u8
+    ensures { result ≡ raised 1 true pending }
 {
-    if test {
-        if pending / weight % 2 == 0 {
-            return pending + weight;
-        }
-    }
-    pending
+    pending | 1
 }
 
-// Pending bits with the one of a weight lowered if the test holds.
-fn lower(pending: u8, weight: u8, test: bool) -> u8
-    requires { 0 < weight }
-    ensures { result ≡ lowered weight test pending }
+// Pending bits with those of the sources that fell raised.
+#[tactic(auto, using(crate::proofs::pending::Bits::sources_by_or))]
+pub(crate) fn with_sources(pending: u8, periodic: bool, strobe: bool, second: bool) -> u8
+    ensures { result ≡ sources_raised periodic strobe second pending }
 {
-    if test {
-        if pending / weight % 2 == 1 {
-            return pending - weight;
-        }
-    }
-    pending
+    pending | u8::from(periodic) << 1 | u8::from(strobe) << 2 | u8::from(second) << 3
 }
 
 // Pending bits without those that are set in a value.
+#[tactic(auto, using(crate::proofs::pending::Bits::cleared_by_and))]
 pub(crate) fn clear(value: u16, pending: u8) -> u8
     ensures { result ≡ cleared value pending }
 {
-    let left = lower(pending, 16, value / 16 % 2 == 1);
-    let left = lower(left, 8, value / 8 % 2 == 1);
-    let left = lower(left, 4, value / 4 % 2 == 1);
-    let left = lower(left, 2, value / 2 % 2 == 1);
-    lower(left, 1, value % 2 == 1)
-}
-
-// Whether the bit of a weight is set in both.
-fn both(a: u8, b: u8, weight: u8) -> bool
-    requires { 0 < weight }
-    ensures { result ≡ (bit weight a && bit weight b) }
-{
-    if a / weight % 2 == 1 {
-        return b / weight % 2 == 1;
-    }
-    false
+    pending & !((value % 32) as u8)
 }
 
 // Whether some bit, 0 to 4, is set in both.
+#[tactic(auto, using(crate::proofs::pending::Bits::meet_by_and))]
 pub(crate) fn some_meet(a: u8, b: u8) -> bool
     ensures { result ≡ meet a b }
 {
-    if both(a, b, 1) {
-        return true;
-    }
-    if both(a, b, 2) {
-        return true;
-    }
-    if both(a, b, 4) {
-        return true;
-    }
-    if both(a, b, 8) {
-        return true;
-    }
-    both(a, b, 16)
+    a & b & 31 != 0
 }

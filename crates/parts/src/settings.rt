@@ -7,7 +7,7 @@ use wire::packets::{
     pair_means,
 };
 
-#[derive(Clone, Copy)]
+#[derive(Clone, Copy, Debug, PartialEq, Eq)]
 pub struct Settings {
     pub mode: u8,
     pub format: Format,
@@ -18,83 +18,33 @@ pub struct Settings {
 }
 
 // Whether settings are lawful: a mode with a meaning, no forbidden pair, an offset of at most seven digits.
+#[tactic(auto, unfolding(crate::specs::Settings::settings_lawful))]
 pub fn settings_fit(s: Settings) -> bool
     ensures { result ≡ settings_lawful s }
 {
-    if 8 <= s.mode {
-        return false;
-    }
-    if !mode_means(s.mode) {
-        return false;
-    }
-    let f = s.format;
-    let m = s.modulation;
-    if !pair_means(f, m) {
-        return false;
-    }
-    offset_fits(s.offset)
+    s.mode < 8 && mode_means(s.mode) && pair_means(s.format, s.modulation) && offset_fits(s.offset)
 }
 
 // Whether the jam, on or off, may stand beside settings: not on beside a large offset.
 pub fn jam_fits(jam: bool, s: Settings) -> bool
     ensures { result ≡ jam_fits jam s }
 {
-    if jam {
-        return !offset_large(s.offset);
-    }
-    true
+    !(jam && offset_large(s.offset))
 }
 
 // The settings with what a packet says.
 pub fn apply(p: Packet, s: Settings) -> Settings
     ensures { result ≡ applied p s }
 {
-    let mode = s.mode;
-    let format = s.format;
-    let modulation = s.modulation;
-    let clock = s.clock;
-    let generator = s.generator;
-    let offset = s.offset;
     match p {
-        Packet::A(m) => Settings {
-            mode: m,
-            format: format,
-            modulation: modulation,
-            clock: clock,
-            generator: generator,
-            offset: offset,
+        Packet::A(mode) => Settings { mode, ..s },
+        Packet::G(offset) => Settings { offset, ..s },
+        Packet::H(format, modulation) => Settings {
+            format,
+            modulation,
+            ..s
         },
-        Packet::G(z) => Settings {
-            mode: mode,
-            format: format,
-            modulation: modulation,
-            clock: clock,
-            generator: generator,
-            offset: z,
-        },
-        Packet::H(f, m) => Settings {
-            mode: mode,
-            format: f,
-            modulation: m,
-            clock: clock,
-            generator: generator,
-            offset: offset,
-        },
-        Packet::I(c) => Settings {
-            mode: mode,
-            format: format,
-            modulation: modulation,
-            clock: c,
-            generator: generator,
-            offset: offset,
-        },
-        Packet::K(g) => Settings {
-            mode: mode,
-            format: format,
-            modulation: modulation,
-            clock: clock,
-            generator: g,
-            offset: offset,
-        },
+        Packet::I(clock) => Settings { clock, ..s },
+        Packet::K(generator) => Settings { generator, ..s },
     }
 }

@@ -13,22 +13,19 @@ use sync::board::{Board, fresh_board};
 // An empty line is only written.
 fn line(rt: &impl Print, board: Board, text: &[u8]) -> io::Result<Board> {
     rt.write_all(text)?;
-    let b = if text.len() == 0 {
-        board
-    } else {
-        called(rt, text[0], board, text)?
+    let board = match text {
+        [] => board,
+        [call, ..] => called(rt, *call, board, text)?,
     };
     rt.write_all(b"\n")?;
-    Ok(b)
+    Ok(board)
 }
 
+// What stands behind the last line's end is no line.
 fn run_lines(rt: &impl Print, lines: &[u8]) -> io::Result<()> {
     let mut board = fresh_board();
-    let mut from: usize = 0;
-    for i in 0..lines.len() {
-        if lines[i] == b'\n' {
-            let text = &lines[from..i];
-            from = i + 1;
+    for text in lines.split_inclusive(|&b| b == b'\n') {
+        if let [text @ .., b'\n'] = text {
             board = line(rt, board, text)?;
         }
     }
@@ -38,9 +35,6 @@ fn run_lines(rt: &impl Print, lines: &[u8]) -> io::Result<()> {
 // One reading takes all lines: 65536 bytes at most. A read that fails gives nothing; a write that fails is the end.
 fn main(rt: HostRuntime) -> io::Result<()> {
     let mut lines = [0u8; 65536];
-    let n = match rt.reader().read(&mut lines) {
-        Ok(n) => n,
-        Err(_) => 0,
-    };
+    let n = rt.reader().read(&mut lines).unwrap_or(0);
     run_lines(&rt, &lines[..n])
 }

@@ -4,7 +4,7 @@ ghost use Rattle.std.specs.Prelude.{◌≤◌};
 use card::card::Card;
 use card::registers::write_register;
 use card::reset::fresh_card;
-use cases::{byte_at, long_at, number_at, short_at, ticks_at};
+use cases::{at, flag_at, number_at, ticks_at};
 use clock::clock::{Clock, Periodic, Strobe};
 use clock::time::Time;
 use parts::event::Event;
@@ -18,18 +18,18 @@ use wire::time::Milliseconds;
 pub(crate) fn count_at(text: &[u8], most: usize) -> usize
     ensures { result ≤ most }
 {
-    let n = (number_at(text, 1) % 1_000) as usize;
-    if n < most { n } else { most }
+    most.min((number_at(text, 1) % 1_000) as usize)
 }
 
 // The last five of six numbers.
 pub(crate) fn five_at(text: &[u8]) -> [u16; 5] {
-    let a = short_at(text, 2);
-    let b = short_at(text, 3);
-    let c = short_at(text, 4);
-    let d = short_at(text, 5);
-    let e = short_at(text, 6);
-    [a, b, c, d, e]
+    [
+        at(text, 2),
+        at(text, 3),
+        at(text, 4),
+        at(text, 5),
+        at(text, 6),
+    ]
 }
 
 // The offsets at which something changes, and some between.
@@ -82,132 +82,114 @@ fn generator_of(n: u8) -> Generator {
 }
 
 fn with_time(card: Card, text: &[u8]) -> Card {
-    let mut clock = card.clock;
     let time = Time {
-        year: short_at(text, 1),
-        day: short_at(text, 2),
+        year: at(text, 1),
+        day: at(text, 2),
         tick: ticks_at(text, 3),
     };
-    clock.time = time;
-    let mut c = card;
-    c.clock = clock;
-    c
+    Card {
+        clock: Clock { time, ..card.clock },
+        ..card
+    }
 }
 
 fn strobe_of(kind: u8, ms: u32) -> Strobe {
     match kind {
         0 => Strobe::Off,
-        1 => Strobe::Daily(Milliseconds { ms: ms }),
-        _ => Strobe::EachSecond(Milliseconds { ms: ms }),
+        1 => Strobe::Daily(Milliseconds { ms }),
+        _ => Strobe::EachSecond(Milliseconds { ms }),
     }
 }
 
 // Strobe and periodic output.
 fn with_sources(card: Card, text: &[u8]) -> Card {
-    let clock = card.clock;
-    let time = clock.time;
     let clock = Clock {
-        time: time,
-        strobe: strobe_of(byte_at(text, 1), long_at(text, 2)),
+        strobe: strobe_of(at(text, 1), at(text, 2)),
         periodic: Periodic::Every {
-            n1: short_at(text, 3),
-            n2: short_at(text, 4),
-            count: long_at(text, 5),
+            n1: at(text, 3),
+            n2: at(text, 4),
+            count: at(text, 5),
         },
+        ..card.clock
     };
-    let mut c = card;
-    c.clock = clock;
-    c
+    Card { clock, ..card }
 }
 
 fn with_interrupts(card: Card, text: &[u8]) -> Card {
     let interrupts = Interrupts {
-        mask: byte_at(text, 1),
-        pending: byte_at(text, 2),
-        level: byte_at(text, 3),
-        vector: byte_at(text, 4),
+        mask: at(text, 1),
+        pending: at(text, 2),
+        level: at(text, 3),
+        vector: at(text, 4),
     };
-    let mut c = card;
-    c.interrupts = interrupts;
-    c
+    Card { interrupts, ..card }
 }
 
 // CONTROL and the words of the event latch.
 fn with_event(card: Card, text: &[u8]) -> Card {
     let event = Event {
-        control: byte_at(text, 1),
-        closed: card.event.closed,
-        missed: card.event.missed,
+        control: at(text, 1),
         latch: five_at(text),
+        ..card.event
     };
-    let mut c = card;
-    c.event = event;
-    c
+    Card { event, ..card }
 }
 
 // Whether the event latch is closed, and how many edges it missed.
 fn with_missed(card: Card, text: &[u8]) -> Card {
-    let mut event = card.event;
-    event.closed = byte_at(text, 1) == 1;
-    event.missed = short_at(text, 2);
-    let mut c = card;
-    c.event = event;
-    c
+    let event = Event {
+        closed: flag_at(text, 1),
+        missed: at(text, 2),
+        ..card.event
+    };
+    Card { event, ..card }
 }
 
 // The time latch, and done if the first number is 1.
 fn with_latch(card: Card, text: &[u8]) -> Card {
-    let words = five_at(text);
-    let mut c = card;
-    c.time_latch = words;
-    c.done = byte_at(text, 1) == 1;
-    c
+    Card {
+        time_latch: five_at(text),
+        done: flag_at(text, 1),
+        ..card
+    }
 }
 
 fn with_settings(card: Card, text: &[u8]) -> Card {
     let settings = Settings {
-        mode: byte_at(text, 1),
-        format: format_of(byte_at(text, 2)),
-        modulation: modulation_of(byte_at(text, 3)),
-        clock: clock_of(byte_at(text, 4)),
-        generator: generator_of(byte_at(text, 5)),
-        offset: offset_of(byte_at(text, 6)),
+        mode: at(text, 1),
+        format: format_of(at(text, 2)),
+        modulation: modulation_of(at(text, 3)),
+        clock: clock_of(at(text, 4)),
+        generator: generator_of(at(text, 5)),
+        offset: offset_of(at(text, 6)),
     };
-    let mut c = card;
-    c.settings = settings;
-    c
+    Card { settings, ..card }
 }
 
 fn with_jam(card: Card, text: &[u8]) -> Card {
-    let mut c = card;
-    c.jam = byte_at(text, 1) == 1;
-    c
+    Card {
+        jam: flag_at(text, 1),
+        ..card
+    }
 }
 
 // A queue of so many bytes, all zero but the one at a place.
 fn with_queue(card: Card, text: &[u8]) -> Card {
     let mut bytes = [0u8; 64];
-    let place = (number_at(text, 2) % 64) as usize;
-    bytes[place] = byte_at(text, 3);
-    let queue = Queue {
-        bytes: bytes,
-        fill: (number_at(text, 1) % 1_000) as usize,
-    };
-    let mut c = card;
-    c.queue = queue;
-    c
+    bytes[(number_at(text, 2) % 64) as usize] = at(text, 3);
+    let fill = (number_at(text, 1) % 1_000) as usize;
+    Card {
+        queue: Queue { bytes, fill },
+        ..card
+    }
 }
 
-// The card with so many bytes written to FIFO, one by one.
-fn fed(card: Card, text: &[u8], count: usize) -> Card
-    requires { count ≤ 64 }
-{
-    let mut c = card;
-    for i in 0..count {
-        let a = write_register(c, 13, short_at(text, i + 2));
-        c = a.card;
+// The card with so many bytes written to FIFO, 64 at most, one by one.
+fn fed(mut card: Card, text: &[u8]) -> Card {
+    for i in 0..count_at(text, 64) {
+        card = write_register(card, 13, at(text, i + 2)).after;
     }
-    c
+    card
 }
 
 // A fresh card, or the card with another part.
@@ -222,7 +204,7 @@ pub(crate) fn changed(call: u8, card: Card, text: &[u8]) -> Card {
         b'L' => with_latch(card, text),
         b'M' => with_settings(card, text),
         b'O' => with_jam(card, text),
-        b'F' => fed(card, text, count_at(text, 64)),
+        b'F' => fed(card, text),
         _ => with_queue(card, text),
     }
 }

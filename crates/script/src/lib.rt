@@ -20,33 +20,29 @@ use std::io::Read;
 // A line's words are written, and behind them what its call gives back. A line without words only changes the card; one without a call is only said.
 fn line(rt: &impl Print, card: Card, words: &[u8], text: &[u8]) -> io::Result<Card> {
     rt.write_all(words)?;
-    if text.len() == 0 {
+    let Some(&call) = text.first() else {
         rt.write_all(b"\n")?;
         return Ok(card);
-    }
-    let c = called(rt, text[0], card, text)?;
-    if words.len() != 0 {
+    };
+    let card = called(rt, call, card, text)?;
+    if !words.is_empty() {
         rt.write_all(b"\n")?;
     }
-    Ok(c)
+    Ok(card)
 }
 
+// A call stands between the last bar and the line's end. A line that has no bar belongs to the words of the next one, which a split at the lines' ends would lose.
 fn run_lines(rt: &impl Print, lines: &[u8]) -> io::Result<()> {
     let mut card = fresh_card();
-    let mut from: usize = 0;
-    let mut bar: usize = 0;
-    for i in 0..lines.len() {
-        if lines[i] == b'|' {
+    let mut from = 0;
+    let mut bar = 0;
+    for (i, &b) in lines.iter().enumerate() {
+        if b == b'|' {
             bar = i;
         }
-        if lines[i] == b'\n' {
-            if from <= bar {
-                if bar < i {
-                    let words = &lines[from..bar];
-                    from = i + 1;
-                    card = line(rt, card, words, &lines[bar + 1..i])?;
-                }
-            }
+        if b == b'\n' && (from..i).contains(&bar) {
+            card = line(rt, card, &lines[from..bar], &lines[bar + 1..i])?;
+            from = i + 1;
         }
     }
     Ok(())
@@ -55,9 +51,6 @@ fn run_lines(rt: &impl Print, lines: &[u8]) -> io::Result<()> {
 // All lines of standard input, which one reading takes: 65536 bytes at most. A read that fails gives nothing; a write that fails is the end.
 pub fn run(rt: &(impl Input + Print)) -> io::Result<()> {
     let mut lines = [0u8; 65536];
-    let n = match rt.reader().read(&mut lines) {
-        Ok(n) => n,
-        Err(_) => 0,
-    };
+    let n = rt.reader().read(&mut lines).unwrap_or(0);
     run_lines(rt, &lines[..n])
 }

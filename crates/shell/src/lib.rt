@@ -4,70 +4,43 @@
 // here it is proved only that nothing goes wrong and that the program ends.
 #![tactic(auto)]
 
-ghost use Rattle.std.specs.Prelude.{◌≤◌, length};
-
 use listing::feeding::{Bench, feed, finish, start};
 use std::io;
 use std::io::Read;
+use std::ops::ControlFlow;
 
-// The bench after a part of the input, and whether to go on.
-#[derive(Clone, Copy)]
-struct Kept {
-    bench: Bench,
-    going: bool,
-}
-
-// Writes the first bytes of a row.
-fn write_front(rt: &impl Print, row: &[u8], n: usize) -> io::Result<()>
-    requires { n ≤ length row.now }
-{
-    let from: usize = 0;
-    rt.write_all(&row[from..n])
-}
-
-// Feeds a part of the input, and writes the lines out whenever the row has no room for one more, and at the part's end.
-fn feed_part(rt: &impl Print, bench: Bench, part: &[u8], row: &mut [u8]) -> io::Result<Kept> {
-    let mut kept = bench;
-    let mut from: usize = 0;
-    while from < part.len() {
-        let fed = feed(kept, &part[from..], row);
-        let next = fed.bench;
-        kept = next;
+// Feeds a part of the input, and writes the lines out whenever the row has no room for one more, and at the part's end. Breaks if no more is taken.
+fn feed_part(
+    rt: &impl Print,
+    bench: &mut Bench,
+    part: &[u8],
+    row: &mut [u8],
+) -> io::Result<ControlFlow<()>> {
+    let mut left = part;
+    while !left.is_empty() {
+        let fed = feed(*bench, left, row);
+        *bench = fed.bench;
         if fed.taken == 0 {
-            return Ok(Kept {
-                bench: kept,
-                going: false,
-            });
+            return Ok(ControlFlow::Break(()));
         }
-        write_front(rt, row, fed.written)?;
-        from += fed.taken;
+        rt.write_all(&row[..fed.written])?;
+        left = &left[fed.taken..];
     }
-    Ok(Kept {
-        bench: kept,
-        going: true,
-    })
+    Ok(ControlFlow::Continue(()))
 }
 
 // Reads once, and feeds what came. A read that fails or gives nothing is the end.
 fn feed_some(
     rt: &impl Print,
     reader: &mut impl Read,
-    bench: Bench,
+    bench: &mut Bench,
     input: &mut [u8],
     row: &mut [u8],
-) -> io::Result<Kept> {
-    let n = match reader.read(input) {
-        Ok(n) => n,
-        Err(_) => 0,
-    };
-    if n == 0 {
-        return Ok(Kept {
-            bench: bench,
-            going: false,
-        });
+) -> io::Result<ControlFlow<()>> {
+    match reader.read(input) {
+        Ok(0) | Err(_) => Ok(ControlFlow::Break(())),
+        Ok(n) => feed_part(rt, bench, &input[..n], row),
     }
-    let from: usize = 0;
-    feed_part(rt, bench, &input[from..n], row)
 }
 
 // Feeds all of the input, and at its end the last rest. Nothing says that an input ends, so the loop counts its turns, up to a number that no run
@@ -80,15 +53,12 @@ fn run(
 ) -> io::Result<()> {
     let mut bench = start();
     for _ in 0..u64::MAX {
-        let kept = feed_some(rt, reader, bench, input, row)?;
-        let next = kept.bench;
-        bench = next;
-        if !kept.going {
+        if feed_some(rt, reader, &mut bench, input, row)?.is_break() {
             break;
         }
     }
     let n = finish(bench, row);
-    write_front(rt, row, n)
+    rt.write_all(&row[..n])
 }
 
 // The bench program: the header, and then the lines. A write that fails is the end.

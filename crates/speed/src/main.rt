@@ -11,7 +11,6 @@
 mod asking;
 mod cards;
 mod changing;
-mod names;
 mod packets;
 mod reading;
 mod sums;
@@ -20,16 +19,21 @@ mod waits;
 ghost use Rattle.std.specs.Prelude.{◌≤◌, length};
 
 use crate::asking::{lawfuls, lines};
-use crate::cards::{busy_card, card_for, card_with, pair_for};
-use crate::changing::{blocks, change, long_packets, short_packets};
-use crate::names::{begins, place_in, same};
-use crate::packets::wire_sum;
+use crate::cards::{busy_card, busy_pair, card_with, fresh_pair};
+use crate::changing::{
+    block_sent, changes, dividers_set, edge_taken, long_packet_sent, mask_set, reloaded,
+    short_packet_sent, strobe_set, time_set,
+};
+use crate::packets::{packet_read, packet_written, wire_sum, words_read, words_written};
 use crate::reading::reads;
 use crate::waits::{fills, waits};
 use card::card::Card;
+use card::reset::{fresh_card, reset};
+use card::waiting::wait;
 use cases::writing::put;
-use cases::{number_at, short_at};
+use cases::{at, number_at};
 use clock::clock::{Periodic, Strobe};
+use lent::in_place;
 use std::env::FillError;
 use std::io;
 use std::rt::Env;
@@ -38,89 +42,81 @@ use wire::time::Milliseconds;
 // The longest row.
 const LONGEST: u64 = 1_000_000;
 
-// What a name comes to: the loop's checksum, or that no loop has it.
-#[derive(Clone, Copy)]
-enum Outcome {
-    Sum(u64),
-    Unknown,
-}
-
-// Loops over words and packets alone.
-fn run_wire(name: &[u8], times: usize) -> Outcome {
-    let kind = place_in(b"words read-words read-packet write-packet ", name);
-    if kind < 4 {
-        Outcome::Sum(wire_sum(kind, times))
-    } else {
-        Outcome::Unknown
+// Loops over words and packets alone. Here and below: the checksum of the loop that has a name, or none if no loop has it.
+fn run_wire(name: &[u8], times: usize) -> Option<u64> {
+    match name {
+        b"words" => Some(wire_sum(times, words_written)),
+        b"read-words" => Some(wire_sum(times, words_read)),
+        b"read-packet" => Some(wire_sum(times, packet_read)),
+        b"write-packet" => Some(wire_sum(times, packet_written)),
+        _ => None,
     }
 }
 
 // Loops of packets through a card's queue.
-fn run_packets(name: &[u8], times: usize) -> Outcome {
-    let kind = place_in(b"packet-a packet-g block-g ", name);
+fn run_packets(name: &[u8], times: usize) -> Option<u64> {
     let first = busy_card(1, 64, false);
-    match kind {
-        0 => Outcome::Sum(short_packets(first, times)),
-        1 => Outcome::Sum(long_packets(first, times)),
-        2 => Outcome::Sum(blocks(first, times)),
+    match name {
+        b"packet-a" => Some(changes(first, times, short_packet_sent)),
+        b"packet-g" => Some(changes(first, times, long_packet_sent)),
+        b"block-g" => Some(changes(first, times, block_sent)),
         _ => run_wire(name, times),
     }
 }
 
-// Loops of other calls that change a card. The last two are the first two again, on other cards.
-fn run_changes(name: &[u8], times: usize) -> Outcome {
-    let kind = place_in(
-        b"write-mask-busy edge-captured set-time set-strobe set-dividers reset save-load write-mask-fresh edge-passed ",
-        name,
-    );
-    if kind == 9 {
-        return run_packets(name, times);
+// Loops of other calls that change a card: a busy one, but where the name says a fresh one, or an edge passed, which one with capture off does.
+fn run_changes(name: &[u8], times: usize) -> Option<u64> {
+    let busy = busy_card(1, 64, true);
+    match name {
+        b"write-mask-busy" => Some(changes(busy, times, mask_set)),
+        b"write-mask-fresh" => Some(changes(fresh_card(), times, mask_set)),
+        b"edge-captured" => Some(changes(busy, times, edge_taken)),
+        b"edge-passed" => Some(changes(busy_card(0, 64, true), times, edge_taken)),
+        b"set-time" => Some(changes(busy, times, time_set)),
+        b"set-strobe" => Some(changes(busy, times, strobe_set)),
+        b"set-dividers" => Some(changes(busy, times, dividers_set)),
+        b"reset" => Some(changes(busy, times, |card, _| reset(card))),
+        b"save-load" => Some(changes(busy, times, |card, _| reloaded(card))),
+        _ => run_packets(name, times),
     }
-    let first = card_for(kind);
-    Outcome::Sum(change(kind % 7, first, times))
 }
 
-// Loops that ask or read a card.
-fn run_calls(name: &[u8], times: usize) -> Outcome {
-    let kind = place_in(
-        b"lawful-fresh lawful-busy line read-intstat read-time ",
-        name,
-    );
-    match kind {
-        0 | 1 => Outcome::Sum(lawfuls(pair_for(kind), times)),
-        2 => Outcome::Sum(lines(pair_for(kind), times)),
-        5 => run_changes(name, times),
-        _ => Outcome::Sum(reads(kind == 4, busy_card(1, 64, true), times)),
+// Loops that ask or read a card: INTSTAT, or, of the time, TIMEREQ and its five words in turn.
+fn run_calls(name: &[u8], times: usize) -> Option<u64> {
+    match name {
+        b"lawful-fresh" => Some(lawfuls(fresh_pair(), times)),
+        b"lawful-busy" => Some(lawfuls(busy_pair(), times)),
+        b"line" => Some(lines(busy_pair(), times)),
+        b"read-intstat" => Some(reads(busy_card(1, 64, true), times, |_| 15)),
+        b"read-time" => Some(reads(busy_card(1, 64, true), times, |i| (i % 6) as u8)),
+        _ => run_changes(name, times),
     }
 }
 
 // The strobe that two numbers say.
 fn strobe_of(kind: u64, ms: u16) -> Strobe {
+    let ms = u32::from(ms);
     match kind {
         0 => Strobe::Off,
         1 => Strobe::Daily(Milliseconds {
-            ms: 72_910_000 + (ms as u32),
+            ms: 72_910_000 + ms,
         }),
-        _ => Strobe::EachSecond(Milliseconds { ms: ms as u32 }),
+        _ => Strobe::EachSecond(Milliseconds { ms }),
     }
 }
 
 // The periodic output that two numbers say.
 fn periodic_of(n1: u16, n2: u16) -> Periodic {
-    if n1 == 0 {
-        return Periodic::Off;
-    }
-    Periodic::Every {
-        n1: n1,
-        n2: n2,
-        count: 0,
+    match n1 {
+        0 => Periodic::Off,
+        _ => Periodic::Every { n1, n2, count: 0 },
     }
 }
 
 // The card that the numbers behind a name say.
 fn card_at(name: &[u8]) -> Card {
-    let strobe = strobe_of(number_at(name, 3), short_at(name, 4));
-    let periodic = periodic_of(short_at(name, 1), short_at(name, 2));
+    let strobe = strobe_of(number_at(name, 3), at(name, 4));
+    let periodic = periodic_of(at(name, 1), at(name, 2));
     card_with(0, strobe, periodic)
 }
 
@@ -128,51 +124,44 @@ fn card_at(name: &[u8]) -> Card {
 fn places_of(n: u64, all: usize) -> usize
     ensures { result ≤ all }
 {
-    if n == 0 {
-        return all;
+    match n {
+        0 => all,
+        _ => all.min(n as usize),
     }
-    if (all as u64) < n {
-        return all;
-    }
-    n as usize
 }
 
 // Loops that wait.
 fn run_waits(name: &[u8], times: usize, row: &mut [u64]) -> u64 {
-    let lent = begins(name, b"wait-in-place ");
-    let from: usize = 0;
-    let upto = places_of(number_at(name, 5), row.len());
-    waits(lent, card_at(name), times, &mut row[from..upto])
+    let places = places_of(number_at(name, 5), row.len());
+    let row = &mut row[..places];
+    if name.starts_with(b"wait-in-place ") {
+        waits(card_at(name), times, row, in_place)
+    } else {
+        waits(card_at(name), times, row, wait)
+    }
 }
 
 // All loops.
-fn run(name: &[u8], times: usize, row: &mut [u64]) -> Outcome
+fn run(name: &[u8], times: usize, row: &mut [u64]) -> Option<u64>
     requires { length row.old ≤ 1000000 }
 {
-    if same(name, b"fill") {
-        return Outcome::Sum(fills(times, row));
+    match name {
+        b"fill" => Some(fills(times, row)),
+        _ if name.starts_with(b"wait") => Some(run_waits(name, times, row)),
+        _ => run_calls(name, times),
     }
-    if begins(name, b"wait") {
-        return Outcome::Sum(run_waits(name, times, row));
-    }
-    run_calls(name, times)
 }
 
-// The line of a name.
-fn put_outcome(rt: &impl Print, name: &[u8], outcome: Outcome) -> io::Result<()> {
-    rt.write_all(name)?;
-    match outcome {
-        Outcome::Sum(sum) => put(rt, sum)?,
-        Outcome::Unknown => rt.write_all(b" unknown")?,
-    }
-    rt.write_all(b"\n")
-}
-
-// The loop that an argument names.
+// The loop that an argument names, and its line.
 fn run_argument(rt: &impl Print, name: &[u8], times: usize, row: &mut [u64]) -> io::Result<()>
     requires { length row.old ≤ 1000000 }
 {
-    put_outcome(rt, name, run(name, times, row))
+    rt.write_all(name)?;
+    match run(name, times, row) {
+        Some(sum) => put(rt, sum)?,
+        None => rt.write_all(b" unknown")?,
+    }
+    rt.write_all(b"\n")
 }
 
 // The number that an argument is; 0 where there is none, and for one of more than 64 bytes.
@@ -188,13 +177,7 @@ fn number_of(rt: &impl Env, i: usize) -> u64 {
 fn room_of(n: u64) -> usize
     ensures { result ≤ 1000000 }
 {
-    if n == 0 {
-        return 1;
-    }
-    if LONGEST < n {
-        return LONGEST as usize;
-    }
-    n as usize
+    n.clamp(1, LONGEST) as usize
 }
 
 // The loops of all arguments behind the first two. One of more than 64 bytes names no loop.

@@ -1,17 +1,20 @@
 // Loops over words and packets alone. Each time and each packet depends on what was answered before it.
-use crate::sums::{mixed, mixed_byte, mixed_word};
-use wire::packets::{Packet, PacketRead, offset_size, read_packet, write_packet};
+use crate::sums::mixed;
+use wire::numbers::number_of;
+use wire::packets::{Packet, offset_size, read_packet, write_packet};
 use wire::time::Ticks;
 use wire::words::{read_words, write_words};
 
 // A time to words.
-fn words_written(sum: u64) -> u64 {
-    let w = write_words((1 + sum % 256) as u16, Ticks { ticks: sum });
-    let words = w.words;
-    let sum = mixed_word(sum, words[1]);
-    let sum = mixed_word(sum, words[2]);
-    let sum = mixed_word(sum, words[3]);
-    mixed_word(sum, words[4])
+pub(crate) fn words_written(sum: u64) -> u64 {
+    let [_, days, minutes, seconds, fraction] = write_words(
+        (1 + sum % 256) as u16,
+        Ticks { ticks: sum },
+    ).unwrap_or([0; 5]);
+    let sum = mixed(sum, days);
+    let sum = mixed(sum, minutes);
+    let sum = mixed(sum, seconds);
+    mixed(sum, fraction)
 }
 
 // Words of day 45, whose last digits depend on a sum.
@@ -27,9 +30,11 @@ fn five_words(sum: u64) -> [u16; 5] {
 }
 
 // Words to a time.
-fn words_read(sum: u64) -> u64 {
-    let t = read_words(five_words(sum));
-    mixed(mixed_word(sum, t.day), t.tick.ticks)
+pub(crate) fn words_read(sum: u64) -> u64 {
+    match read_words(five_words(sum)) {
+        Ok(moment) => mixed(mixed(sum, moment.day), moment.tick.ticks),
+        Err(_) => mixed(mixed(sum, 0u16), 0u64),
+    }
 }
 
 // Packet A, with a digit 0 to 3.
@@ -49,45 +54,35 @@ pub(crate) fn long_packet(sum: u64) -> [u8; 11] {
 // The size of the offset that a packet has, 0 if none.
 fn size_in(p: Packet) -> u64 {
     match p {
-        Packet::G(offset) => offset_size(offset) as u64,
+        Packet::G(offset) => u64::from(offset_size(offset)),
         _ => 0,
     }
 }
 
 // Packet G read.
-fn packet_read(sum: u64) -> u64 {
-    let bytes = long_packet(sum);
-    let read = read_packet(&bytes);
-    match read {
-        PacketRead::Is(p, needs_jam_off) => mixed(sum, size_in(p)),
-        PacketRead::Refused(number) => mixed_byte(sum, number),
+pub(crate) fn packet_read(sum: u64) -> u64 {
+    match read_packet(&long_packet(sum)) {
+        Ok(read) => mixed(sum, size_in(read.packet)),
+        Err(refusal) => mixed(sum, refusal.number()),
     }
 }
 
 // Packet G written.
-fn packet_written(sum: u64) -> u64 {
+pub(crate) fn packet_written(sum: u64) -> u64 {
     let mut row = [0u8; 11];
     let p = write_packet(Packet::G((sum % 4_194_304) as i32), &mut row);
-    let sum = mixed_byte(sum, p.number);
-    let sum = mixed_byte(sum, row[8]);
-    mixed_byte(sum, row[9])
+    let sum = mixed(sum, number_of(&p));
+    let sum = mixed(sum, row[8]);
+    mixed(sum, row[9])
 }
 
-// One call of a kind: words written and read, a packet read and written.
-fn on_wire(kind: usize, sum: u64) -> u64 {
-    match kind {
-        0 => words_written(sum),
-        1 => words_read(sum),
-        2 => packet_read(sum),
-        _ => packet_written(sum),
-    }
-}
-
-// The calls of a kind.
-pub(crate) fn wire_sum(kind: usize, times: usize) -> u64 {
+// A call so many times.
+pub(crate) fn wire_sum<C: Fn(u64) -> u64>(times: usize, call: C) -> u64
+    requires { C.IsAlwaysCallable call }
+{
     let mut sum: u64 = 7;
-    for i in 0..times {
-        sum = on_wire(kind, sum);
+    for _ in 0..times {
+        sum = call(sum);
     }
     sum
 }

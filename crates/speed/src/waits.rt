@@ -3,8 +3,8 @@ ghost use Rattle.std.specs.Prelude.{◌≤◌, ◌<◌, length};
 
 use crate::sums::{mixed, with_card, with_wait};
 use card::card::Card;
-use card::waiting::{WaitedCard, wait};
-use lent::in_place;
+use card::waiting::Waited;
+use wire::numbers::Answer;
 use wire::time::{TICKS_OF_DAY, Ticks};
 
 // What one plain value is above the one before: as much as the second's records are, since waits are compared with it.
@@ -20,10 +20,10 @@ fn fill_row(row: &mut [u64], first: u64)
 }
 
 fn last_of(row: &[u64]) -> u64 {
-    if row.len() == 0 {
-        return 0;
+    match row {
+        [.., last] => *last,
+        [] => 0,
     }
-    row[row.len() - 1]
 }
 
 // Fills of a row, each from a value that the last one gave.
@@ -31,33 +31,30 @@ pub(crate) fn fills(times: usize, row: &mut [u64]) -> u64
     requires { length row.old ≤ 1000000 }
 {
     let mut sum: u64 = 0;
-    for i in 0..times {
+    for _ in 0..times {
         fill_row(row, sum % 4_294_967_296);
         sum = mixed(sum, last_of(row));
     }
     sum
 }
 
-// A wait of a day, by value or in place.
-fn waited_day(lent: bool, card: Card, row: &mut [u64]) -> WaitedCard {
+// Waits of a day, as far as the row has places, each by a call: by value or in place.
+pub(crate) fn waits<W: Fn(Card, Ticks, &mut [u64]) -> Answer<Card, Waited>>(
+    mut card: Card,
+    times: usize,
+    row: &mut [u64],
+    wait: W,
+) -> u64
+    requires { W.IsAlwaysCallable wait }
+{
     let day = Ticks {
         ticks: TICKS_OF_DAY,
     };
-    if lent {
-        return in_place(card, day, row);
-    }
-    wait(card, day, row)
-}
-
-// Waits of a day, as far as the row has places.
-pub(crate) fn waits(lent: bool, first: Card, times: usize, row: &mut [u64]) -> u64 {
-    let mut card = first;
     let mut sum: u64 = 0;
-    for i in 0..times {
-        let w = waited_day(lent, card, row);
-        let waited = w.waited;
-        sum = with_wait(sum, waited, row);
-        card = w.card;
+    for _ in 0..times {
+        let w = wait(card, day, row);
+        sum = with_wait(sum, w.outcome, row);
+        card = w.after;
     }
     with_card(sum, card)
 }

@@ -2,6 +2,7 @@
 use Prim.Native.Nat.{ℕ}
 use mathlib.Core.Path.{◌≡◌, ◌∙◌}
 use mathlib.Core.Bool.{Bool, true, false}
+use Rattle.std.specs.Prelude.{Ok}
 use Rattle.sync.specs.declared.board.Board.{Board}
 use Rattle.sync.specs.Boards.{switches_fit, started}
 use Rattle.sync.specs.Lawful.{lawful}
@@ -28,11 +29,11 @@ module _ (b : Board) (h : lawful b ≡ true) where
   pub quiet_done : after (Call.step false) b ≡ later 1 b
   quiet_done = step_done false ∙ quiet_one b ∙ quiet_later 1 b h
 
-  pub read_done : (read_register b).value ≡ shown b
+  pub read_done : read_register b ≡ Ok (shown b)
   read_done = simp h
 
   pub take_done : after Call.take b ≡ next_taken b
   take_done = simp h
 
-  pub vector_done : (take_interrupt b).interrupt ≡ next b
+  pub vector_done : (take_interrupt b).outcome ≡ Ok (next b)
   vector_done = simp h

@@ -9,17 +9,20 @@ use lib.Dec.{eqb}
 use borrow.Author.Tests.{not-true}
 use Rattle.wire.specs.Numbers.{Line, ◌if◌, given, quiet, absent}
 use Rattle.wire.proofs.numbers.Laws.{given_exactly, given_zero}
+use Rattle.wire.proofs.numbers.Names.{given_number}
 use Rattle.sync.specs.declared.board.Board.{Board}
 use Rattle.sync.specs.Lawful.{lawful}
 use Rattle.sync.specs.Boards.{switches_fit}
+use Rattle.sync.specs.Register.{shown}
+use Rattle.sync.specs.Interrupts.{next}
 use Rattle.sync.specs.Calls.{Call, number, lines}
 
 pub number_given : (k : Call) (b : Board) → number k b ≡ given (lines k b)
-number_given (Call.set_switches rc1 base) b = refl
-number_given (Call.step pulse) b = refl
-number_given (Call.run n) b = refl
-number_given Call.read b = refl
-number_given Call.take b = refl
+number_given (Call.set_switches rc1 base) b = given_number (lines (Call.set_switches rc1 base) b) tt refl
+number_given (Call.step pulse) b = given_number (lines (Call.step pulse) b) tt refl
+number_given (Call.run n) b = given_number (lines (Call.run n) b) tt refl
+number_given Call.read b = given_number (lines Call.read b) (shown b) refl
+number_given Call.take b = given_number (lines Call.take b) (next b) refl
 
 -- no line has the number 0
 numbered : (k : Call) (b : Board) → absent 0 (lines k b) ≡ true

@@ -10,7 +10,8 @@ use lib.Dec.{leb, ltb, eqb}
 use lib.ListN.{replicate}
 use borrow.Author.Tests.{le-leb, lt-leb, lt-ltb, le-ltb, eq-eqb, ne_eqb, not-true, not-false}
 use Rattle.wire.specs.Digits.{pick}
-use Rattle.wire.specs.Numbers.{given}
+use Rattle.std.specs.Prelude.{None}
+use Rattle.wire.specs.Numbers.{given, given_or}
 use Rattle.wire.proofs.digits.Laws.{and_both, clash, lt_or_le, or_assoc, or_left, or_right}
 use Rattle.sync.specs.declared.board.Board.{Board}
 use Rattle.sync.specs.Boards.{switches_fit, started, fresh_board, with_waiting}
@@ -158,10 +159,10 @@ module _ (b : Board) where
   -- THE REGISTER, AND THE NEXT MICROSECOND
 
   module _ (j : ℕ) (d : Board) (a : At b j d) where
-    register_at : (read_register d).value ≡ pick (not (in_time b) || leb 1008001 j) 0x8000 0 + count (frequency b.rc1) j
+    register_at : given_or 0 (read_register d) ≡ pick (not (in_time b) || leb 1008001 j) 0x8000 0 + count (frequency b.rc1) j
     unfolding shown
     register_at =
-        read_done d a.known
+        ap (given_or 0) (read_done d a.known)
         ∙ rw (a.bit, a.rc1, a.elapsed, count_of_held (frequency b.rc1) j (frequency_above b.rc1)) refl
 
     -- a test of the next microsecond goes as if it were not held
@@ -275,8 +276,8 @@ unfolding shown
 before_is d h u =
     let q = still d u h in
     record {
-      shows = read_done d h ∙ rw (q.bit, q.elapsed, count_none (frequency d.rc1) (frequency_above d.rc1)) refl;
-      waits = vector_done d h ∙ (none_waits d q.err q.slo q.fast).0;
+      shows = ap (given_or 0) (read_done d h) ∙ rw (q.bit, q.elapsed, count_none (frequency d.rc1) (frequency_above d.rc1)) refl;
+      waits = ap (given_or None) (vector_done d h) ∙ (none_waits d q.err q.slo q.fast).0;
     }
 
 module _ (ks : List Call) (q : pulseless ks ≡ true) where

@@ -3,8 +3,9 @@
 use Prim.Native.Nat.{◌+◌}
 use mathlib.Core.Path.{◌≡◌, refl, ap, ◌∙◌}
 use mathlib.Core.Bool.{Bool, true, false}
+use Rattle.std.specs.Prelude.{ℕ, Option, Some, None}
+use Rattle.wire.specs.Numbers.{given_or}
 use Rattle.sync.specs.declared.board.Board.{Board}
-use Rattle.sync.specs.declared.interrupts.Interrupt.{Interrupt}
 use Rattle.sync.specs.Lawful.{lawful}
 use Rattle.sync.specs.Interrupts.{err_taken, slo_taken, fast_taken, next, next_taken, take_interrupt}
 use Rattle.sync.specs.Calls.{Call, after, after_all}
@@ -14,19 +15,19 @@ use Rattle.sync.proofs.Keeps.{keeps, keeps_all}
 use Rattle.sync.proofs.Done.{take_done, vector_done}
 
 module _ (b : Board) (h : lawful b ≡ true) where
-  gives : (i : Interrupt) (d : Board) → (next b ≡ i) × (next_taken b ≡ d) → Gives b i d
-  gives i d q = (vector_done b h ∙ q.0, take_done b h ∙ q.1)
+  gives : (i : Option ℕ) (d : Board) → (next b ≡ i) × (next_taken b ≡ d) → Gives b i d
+  gives i d q = (ap (given_or None) (vector_done b h) ∙ q.0, take_done b h ∙ q.1)
 
-  pub takes_err : b.err ≡ true → Gives b (Interrupt.Vector (b.base + 2)) (err_taken b)
+  pub takes_err : b.err ≡ true → Gives b (Some (b.base + 2)) (err_taken b)
   takes_err e = gives _ _ (err_first b e)
 
-  pub takes_slo : b.err ≡ false → b.slo ≡ true → Gives b (Interrupt.Vector (b.base + 1)) (slo_taken b)
+  pub takes_slo : b.err ≡ false → b.slo ≡ true → Gives b (Some (b.base + 1)) (slo_taken b)
   takes_slo e s = gives _ _ (slo_next b e s)
 
-  pub takes_fast : b.err ≡ false → b.slo ≡ false → b.fast ≡ true → Gives b (Interrupt.Vector b.base) (fast_taken b)
+  pub takes_fast : b.err ≡ false → b.slo ≡ false → b.fast ≡ true → Gives b (Some b.base) (fast_taken b)
   takes_fast e s f = gives _ _ (fast_last b e s f)
 
-  pub takes_none : b.err ≡ false → b.slo ≡ false → b.fast ≡ false → Gives b Interrupt.NoneWaits b
+  pub takes_none : b.err ≡ false → b.slo ≡ false → b.fast ≡ false → Gives b None b
   takes_none e s f = gives _ _ (none_waits b e s f)
 
 -- EACH WAITS ONCE AT MOST
@@ -58,7 +59,7 @@ module _ (b : Board) (h : lawful b ≡ true) where
   fast_gone e s = no_fast b.fast e s refl
 
 -- so three takings leave none
-pub after_three : (b : Board) → lawful b ≡ true → (take_interrupt (after_all (takings 3) b)).interrupt ≡ Interrupt.NoneWaits
+pub after_three : (b : Board) → lawful b ≡ true → given_or None (take_interrupt (after_all (takings 3) b)).outcome ≡ None
 after_three b h = last (after Call.take (after Call.take b)) (keeps_all (takings 2) b h) (err_gone one k) (slo_gone one k (err_gone b h))
   where
     one : Board
@@ -67,5 +68,5 @@ after_three b h = last (after Call.take (after Call.take b)) (keeps_all (takings
     k : lawful (after Call.take b) ≡ true
     k = keeps Call.take b h
 
-    last : (d : Board) → lawful d ≡ true → d.err ≡ false → d.slo ≡ false → (take_interrupt (after Call.take d)).interrupt ≡ Interrupt.NoneWaits
+    last : (d : Board) → lawful d ≡ true → d.err ≡ false → d.slo ≡ false → given_or None (take_interrupt (after Call.take d)).outcome ≡ None
     last d g e s = (takes_none (after Call.take d) (keeps Call.take d g) (err_gone d g) (slo_gone d g e) (fast_gone d g e s)).0

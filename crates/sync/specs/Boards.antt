@@ -1,9 +1,6 @@
--- The board: what its switches may be, how it starts, and what a call that changes it answers.
-use Rattle.std.specs.Prelude.{ℕ, ◌%◌, Bool, true, false, ◌&&◌, List, leb, eqb}
-use Rattle.wire.specs.Digits.{pick}
-use Rattle.wire.specs.Numbers.{Line, given}
+-- The board: what its switches may be, and how it starts.
+use Rattle.std.specs.Prelude.{ℕ, ◌%◌, Bool, true, false, ◌&&◌, leb, eqb}
 use Rattle.sync.specs.declared.board.Board.{Board}
-use Rattle.sync.specs.declared.board.Answer.{Answer}
 
 -- RC1 is 0 to 3, the base a multiple of 16 below 256
 unfoldable pub switches_fit : ℕ → ℕ → Bool
@@ -20,7 +17,3 @@ fresh_board = started 1 0
 -- the board with just these waiting
 abbrev pub with_waiting : Board → Bool → Bool → Bool → Board
 with_waiting b err slo fast = record { rc1 = b.rc1; base = b.base; seen = b.seen; elapsed = b.elapsed; bit = b.bit; err = err; slo = slo; fast = fast }
-
--- what a call with these lines answers: the changed board if none of them holds, else the board as it was and the number
-abbrev pub granted : List Line → Board → Board → Answer
-granted ls b changed = record { board = pick (eqb (given ls) 0) changed b; number = given ls }

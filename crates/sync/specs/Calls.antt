@@ -1,10 +1,9 @@
 -- All calls that take a board (`is_lawful` tells and changes nothing): the board afterwards, the number and the values given back, the table of each, and, in this one
 -- place, the fields that each may touch.
-use Rattle.std.specs.Prelude.{ℕ, Bool, true, false, ◌||◌, List, [], ◌∷◌, eqb}
+use Rattle.std.specs.Prelude.{ℕ, Bool, true, false, ◌||◌, List, [], ◌∷◌, Option, Some, None, eqb}
 use Rattle.wire.specs.Digits.{pick}
-use Rattle.wire.specs.Numbers.{Line}
+use Rattle.wire.specs.Numbers.{Line, number_of, given_or}
 use Rattle.sync.specs.declared.board.Board.{Board}
-use Rattle.sync.specs.declared.interrupts.Interrupt.{Interrupt}
 use Rattle.sync.specs.Switches
 use Rattle.sync.specs.Stepping
 use Rattle.sync.specs.Register
@@ -20,32 +19,32 @@ pub data Call : Type 0 where
 
 -- the board afterwards; reading does not give it back
 abbrev pub after : Call → Board → Board
-after (Call.set_switches rc1 base) b = (Switches.set_switches b rc1 base).board
-after (Call.step pulse) b = (Stepping.step b pulse).board
-after (Call.run n) b = (Stepping.run b n).board
+after (Call.set_switches rc1 base) b = (Switches.set_switches b rc1 base).after
+after (Call.step pulse) b = (Stepping.step b pulse).after
+after (Call.run n) b = (Stepping.run b n).after
 after Call.read b = b
-after Call.take b = (Interrupts.take_interrupt b).board
+after Call.take b = (Interrupts.take_interrupt b).after
 
 -- the number given back
 abbrev pub number : Call → Board → ℕ
-number (Call.set_switches rc1 base) b = (Switches.set_switches b rc1 base).number
-number (Call.step pulse) b = (Stepping.step b pulse).number
-number (Call.run n) b = (Stepping.run b n).number
-number Call.read b = (Register.read_register b).number
-number Call.take b = (Interrupts.take_interrupt b).number
+number (Call.set_switches rc1 base) b = number_of (Switches.set_switches b rc1 base).outcome
+number (Call.step pulse) b = number_of (Stepping.step b pulse).outcome
+number (Call.run n) b = number_of (Stepping.run b n).outcome
+number Call.read b = number_of (Register.read_register b)
+number Call.take b = number_of (Interrupts.take_interrupt b).outcome
 
 -- the answer of a taking as values: the vector, or none
-abbrev pub vectors : Interrupt → List ℕ
-vectors (Interrupt.Vector v) = v ∷ []
-vectors Interrupt.NoneWaits = []
+abbrev pub vectors : Option ℕ → List ℕ
+vectors (Some v) = v ∷ []
+vectors None = []
 
 -- the values given back beside board and number
 abbrev pub values : Call → Board → List ℕ
 values (Call.set_switches rc1 base) b = []
 values (Call.step pulse) b = []
 values (Call.run n) b = []
-values Call.read b = (Register.read_register b).value ∷ []
-values Call.take b = vectors (Interrupts.take_interrupt b).interrupt
+values Call.read b = given_or 0 (Register.read_register b) ∷ []
+values Call.take b = vectors (given_or None (Interrupts.take_interrupt b).outcome)
 
 -- REFUSALS
 

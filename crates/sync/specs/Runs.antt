@@ -1,8 +1,8 @@
 -- Chains of calls: those that leave a board, those after a pulse, those before the first, and takings.
-use Rattle.std.specs.Prelude.{ℕ, ◌+◌, ◌≡◌, Bool, true, false, ◌&&◌, ◌||◌, not, List, [], ◌∷◌, ◌++◌, leb, ltb, eqb, replicate}
+use Rattle.std.specs.Prelude.{ℕ, ◌+◌, ◌≡◌, Bool, true, false, ◌&&◌, ◌||◌, not, List, [], ◌∷◌, ◌++◌, Option, None, leb, ltb, eqb, replicate}
 use Rattle.wire.specs.Digits.{pick}
+use Rattle.wire.specs.Numbers.{given_or}
 use Rattle.sync.specs.declared.board.Board.{Board}
-use Rattle.sync.specs.declared.interrupts.Interrupt.{Interrupt}
 use Rattle.sync.specs.Boards.{switches_fit, fresh_board}
 use Rattle.sync.specs.Counting.{frequency, count, count_falls}
 use Rattle.sync.specs.Stepping.{in_time}
@@ -68,7 +68,7 @@ lasts_all (k ∷ ks) = lasts k + lasts_all ks
 
 -- a board d, the microsecond j after a pulse that came to b: the register is what the page says
 pub record Since (b : Board) (j : ℕ) (d : Board) : Type 0 where
-  pub shows : (read_register d).value ≡ pick (not (in_time b) || leb 1008001 j) 0x8000 0 + count (frequency b.rc1) j
+  pub shows : given_or 0 (read_register d) ≡ pick (not (in_time b) || leb 1008001 j) 0x8000 0 + count (frequency b.rc1) j
   -- the next microsecond raises ERR if it is the 1,008,001st, and FAST if a count falls on it; nothing else
   pub quiet_err : (after (Call.step false) d).err ≡ (d.err || eqb (j + 1) 1008001)
   pub quiet_slo : (after (Call.step false) d).slo ≡ d.slo
@@ -102,11 +102,11 @@ pulseless (k ∷ ks) = not (pulse k) && pulseless ks
 
 -- the register is 0x8000, and nothing waits
 pub record Before (d : Board) : Type 0 where
-  pub shows : (read_register d).value ≡ 0x8000
-  pub waits : (take_interrupt d).interrupt ≡ Interrupt.NoneWaits
+  pub shows : given_or 0 (read_register d) ≡ 0x8000
+  pub waits : given_or None (take_interrupt d).outcome ≡ None
 
 -- A TAKING
 
 -- what it gives, and the board that it leaves
-abbrev pub Gives : Board → Interrupt → Board → Type 0
-Gives b i d = ((take_interrupt b).interrupt ≡ i) × (after Call.take b ≡ d)
+abbrev pub Gives : Board → Option ℕ → Board → Type 0
+Gives b i d = (given_or None (take_interrupt b).outcome ≡ i) × (after Call.take b ≡ d)

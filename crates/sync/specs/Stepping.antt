@@ -1,10 +1,9 @@
 -- Steps of 1 µs, each with or without a pulse.
 use Rattle.std.specs.Prelude.{ℕ, zero, suc, ◌+◌, Bool, false, ◌&&◌, ◌||◌, not, List, [], ◌∷◌, leb, ltb, eqb}
 use Rattle.wire.specs.Digits.{pick}
-use Rattle.wire.specs.Numbers.{Line, ◌if◌}
+use Rattle.wire.specs.declared.numbers.Answer.{Answer}
+use Rattle.wire.specs.Numbers.{Line, ◌if◌, granted}
 use Rattle.sync.specs.declared.board.Board.{Board}
-use Rattle.sync.specs.declared.board.Answer.{Answer}
-use Rattle.sync.specs.Boards.{granted}
 use Rattle.sync.specs.Counting.{frequency, count_falls}
 use Rattle.sync.specs.Lawful.{lawful}
 
@@ -56,8 +55,8 @@ quiet_steps (suc n) b = stepped (quiet_steps n b) false
 abbrev pub step_lines : Board → List Line
 step_lines b = 18 if not (lawful b) ∷ []
 
-abbrev pub step : Board → Bool → Answer
-step b pulse = granted (step_lines b) b (stepped b pulse)
+abbrev pub step : Board → Bool → Answer Board Unit
+step b pulse = granted (step_lines b) b (stepped b pulse) tt
 
-abbrev pub run : Board → ℕ → Answer
-run b n = granted (step_lines b) b (quiet_steps n b)
+abbrev pub run : Board → ℕ → Answer Board Unit
+run b n = granted (step_lines b) b (quiet_steps n b) tt

@@ -1,12 +1,13 @@
-// The board, how it starts, and what a call that changes it answers.
+// The board, and how it starts.
 ghost use Rattle.std.specs.Prelude.{◌≡◌};
 ghost use Rattle.sync.specs.Boards.{switches_fit, started, fresh_board};
 
 // Its switches; whether a pulse was ever seen, and the microseconds since the last one, held at 1,008,001; bit 15 of its register; and which interrupts wait.
-#[derive(Clone, Copy)]
+#[derive(Clone, Copy, Debug, PartialEq, Eq)]
 pub struct Board {
     pub rc1: u8,
     pub base: u8,
+    // Beside the microseconds, not within them: a record of any kind may be handed in, and its definition has both.
     pub seen: bool,
     pub elapsed: u32,
     pub bit: bool,
@@ -15,18 +16,12 @@ pub struct Board {
     pub fast: bool,
 }
 
-// The board afterwards, and the number.
-#[derive(Clone, Copy)]
-pub struct Answer {
-    pub board: Board,
-    pub number: u8,
-}
-
 // RC1 0 to 3, and a base that is a multiple of 16 below 256.
+#[tactic(auto, unfolding(crate::specs::Boards::switches_fit))]
 pub(crate) fn switches_fit(rc1: u32, base: u32) -> bool
     ensures { result ≡ switches_fit rc1 base }
 {
-    (rc1 <= 3) & ((base <= 255) & (base % 16 == 0))
+    rc1 <= 3 && base <= 255 && base % 16 == 0
 }
 
 // A board before its first pulse.
@@ -34,8 +29,8 @@ pub(crate) fn start(rc1: u8, base: u8) -> Board
     ensures { result ≡ started rc1 base }
 {
     Board {
-        rc1: rc1,
-        base: base,
+        rc1,
+        base,
         seen: false,
         elapsed: 0,
         bit: true,

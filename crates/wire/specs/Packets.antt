@@ -1,15 +1,14 @@
 -- Packets: byte 0x01, an id byte, data, byte 0x17.
-use Rattle.std.specs.Prelude.{ℕ, suc, ◌+◌, ◌-◌, Bool, true, false, ◌&&◌, ◌||◌, not, ◌≡◌, List, [], ◌∷◌, ◌++◌, ◌⊎◌, length, take, drop, get_or, replicate, ℤ, pos, negsuc, neg_ℤ, nat_abs, leb, ltb, eqb}
+use Rattle.std.specs.Prelude.{ℕ, suc, ◌+◌, ◌-◌, Bool, true, false, ◌&&◌, ◌||◌, not, ◌≡◌, List, [], ◌∷◌, ◌++◌, ◌⊎◌, length, take, drop, get_or, replicate, ℤ, pos, negsuc, neg_ℤ, nat_abs, leb, ltb, eqb, Option, Some, None, Result, Ok, Err, refl}
 use Rattle.wire.specs.Digits.{pick, digits, num}
-use Rattle.wire.specs.Numbers.{Line, ◌if◌, given}
+use Rattle.wire.specs.Numbers.{Line, ◌if◌, given, answered, number_of, given_or}
 use Rattle.wire.specs.declared.packets.Format.{Format}
 use Rattle.wire.specs.declared.packets.Modulation.{Modulation}
 use Rattle.wire.specs.declared.packets.ClockSource.{ClockSource}
 use Rattle.wire.specs.declared.packets.Generator.{Generator}
 use Rattle.wire.specs.declared.packets.Packet.{Packet}
 use Rattle.wire.specs.declared.packets.PacketRead.{PacketRead}
-use Rattle.wire.specs.declared.packets.Number.{Number}
-use Rattle.wire.specs.declared.packets.PacketWritten.{PacketWritten}
+use Rattle.wire.specs.declared.numbers.Refusal.{Refusal}
 
 -- THE TABLE OF IDS
 
@@ -219,22 +218,18 @@ packet_refusal row = given (packet_lines row)
 abbrev pub packet_in : List ℕ → Packet
 packet_in row = meaning (id_in (body_of row)) (data_in (body_of row))
 
--- the answer that a packet is read, with whether it needs the jam off beside it
+-- what is given of a packet that is read: it, and whether it needs the jam off
 abbrev pub packet_read : Packet → PacketRead
-packet_read p = PacketRead.Is p (needs_jam_off p)
-
-abbrev pub read_as : ℕ → Packet → PacketRead
-read_as n p = pick (eqb n 0) (packet_read p) (PacketRead.Refused n)
+packet_read p = record { packet = p; needs_jam_off = needs_jam_off p }
 
 -- what a row of bytes reads as
-unfoldable pub read_packet : List ℕ → PacketRead
-read_packet row = read_as (packet_refusal row) (packet_in row)
+unfoldable pub read_packet : List ℕ → Result PacketRead Refusal
+read_packet row = answered (packet_refusal row) (packet_read (packet_in row))
 
 -- THE ANSWER AS THE PAGE HAS IT: its number; its values, 0 beside a refusal; whether it needs the jam off, false beside a refusal
 
-abbrev pub number_read : PacketRead → ℕ
-number_read (PacketRead.Is p needs) = 0
-number_read (PacketRead.Refused n) = n
+abbrev pub number_read : Result PacketRead Refusal → ℕ
+number_read = number_of
 
 -- the id; the mode, the offset or the letter of its data; and for H the letter of the modulation
 abbrev pub values_of : Packet → ℕ × ℤ × ℕ
@@ -247,13 +242,13 @@ values_of (Packet.K g) = (0x4B, pos (letter_of_generator g), 0)
 abbrev pub no_values : ℕ × ℤ × ℕ
 no_values = (0, pos 0, 0)
 
-abbrev pub values_read : PacketRead → ℕ × ℤ × ℕ
-values_read (PacketRead.Is p needs) = values_of p
-values_read (PacketRead.Refused n) = no_values
+abbrev pub values_read : Result PacketRead Refusal → ℕ × ℤ × ℕ
+values_read (Ok r) = values_of r.packet
+values_read (Err e) = no_values
 
-abbrev pub jam_off_read : PacketRead → Bool
-jam_off_read (PacketRead.Is p needs) = needs
-jam_off_read (PacketRead.Refused n) = false
+abbrev pub jam_off_read : Result PacketRead Refusal → Bool
+jam_off_read (Ok r) = r.needs_jam_off
+jam_off_read (Err e) = false
 
 -- WRITING
 
@@ -274,11 +269,13 @@ writing_refusal p room =
     ∷ 14 if ltb room (length (bytes_of p))
     ∷ [])
 
-abbrev pub packet_written : ℕ → ℕ → PacketWritten
-packet_written n k = record { number = n; bytes = k }
+-- what writing answers: the bytes written, or why there are none
+unfoldable pub write_packet : Packet → ℕ → Result ℕ Refusal
+write_packet p room = answered (writing_refusal p room) (length (bytes_of p))
 
-unfoldable pub write_packet : Packet → ℕ → PacketWritten
-write_packet p room = pick (eqb (writing_refusal p room) 0) (packet_written 0 (length (bytes_of p))) (packet_written (writing_refusal p room) 0)
+-- as the page has it: the bytes written, 0 beside a refusal
+abbrev pub bytes_written : Result ℕ Refusal → ℕ
+bytes_written = given_or 0
 
 -- the row afterwards: places behind the bytes written, and the whole row beside a refusal, as they were
 unfoldable pub row_written : Packet → List ℕ → List ℕ
@@ -297,6 +294,48 @@ pub record Holds (row : List ℕ) (p : Packet) : Type 0 where
   pub dropped : List ℕ
   pub bytes : (row ≡ bytes_of p ++ dropped) ⊎ ((p ≡ Packet.G (pos 0)) × (row ≡ minus_zero ++ dropped))
 
+-- LETTERS, THERE AND BACK
+
+-- a setting by its letter
+abbrev pub letter_read : {A : Type 0} → (ℕ → Bool) → (ℕ → A) → ℕ → Result A Refusal
+letter_read is of b = pick (is b) (Ok (of b)) (Err Refusal.WrongByte)
+
+abbrev pub read_format : ℕ → Result Format Refusal
+read_format = letter_read is_format format_of
+
+abbrev pub read_modulation : ℕ → Result Modulation Refusal
+read_modulation = letter_read is_modulation modulation_of
+
+abbrev pub read_clock : ℕ → Result ClockSource Refusal
+read_clock = letter_read is_clock clock_of
+
+abbrev pub read_generator : ℕ → Result Generator Refusal
+read_generator = letter_read is_generator generator_of
+
+-- each letter reads as what it stands for
+pub format_letter : (f : Format) → read_format (letter_of_format f) ≡ Ok f
+unfolding format_of
+format_letter Format.A = refl
+format_letter Format.B = refl
+format_letter Format.C = refl
+format_letter Format.N = refl
+format_letter Format.X = refl
+
+pub modulation_letter : (m : Modulation) → read_modulation (letter_of_modulation m) ≡ Ok m
+unfolding modulation_of
+modulation_letter Modulation.M = refl
+modulation_letter Modulation.D = refl
+
+pub clock_letter : (c : ClockSource) → read_clock (letter_of_clock c) ≡ Ok c
+unfolding clock_of
+clock_letter ClockSource.External = refl
+clock_letter ClockSource.Internal = refl
+
+pub generator_letter : (g : Generator) → read_generator (letter_of_generator g) ≡ Ok g
+unfolding generator_of
+generator_letter Generator.B = refl
+generator_letter Generator.H = refl
+
 -- WITHIN THE CRATE
 
 -- a number of decimal digits
@@ -304,31 +343,20 @@ unfoldable pub all_decimal : List ℕ → Bool
 all_decimal [] = true
 all_decimal (b ∷ bs) = is_decimal b && all_decimal bs
 
-unfoldable pub read_number : List ℕ → Number
-read_number bs = pick (all_decimal bs) (Number.Is (num 10 (ascii_values bs))) Number.Bad
+unfoldable pub read_number : List ℕ → Option ℕ
+read_number bs = pick (all_decimal bs) (Some (num 10 (ascii_values bs))) None
 
--- and what an id and data alone read as
-unfoldable pub read_body : ℕ → List ℕ → PacketRead
-read_body id ds = read_as (given (body_lines (id ∷ ds))) (meaning id ds)
+-- data of one byte
+abbrev pub read_one : {A : Type 0} → (ℕ → Result A Refusal) → List ℕ → Result A Refusal
+read_one of ds = pick (eqb (length ds) 1) (of (get_or ds 0 0)) (Err Refusal.WrongLength)
 
--- a format and a modulation's letter
-unfoldable pub read_pair : Format → ℕ → PacketRead
-read_pair f b =
-    pick (is_modulation b)
-    (pick (pair_means f (modulation_of b)) (packet_read (Packet.H f (modulation_of b))) (PacketRead.Refused 10))
-    (PacketRead.Refused 9)
-
--- a sign's byte and a number
-unfoldable pub read_signed : ℕ → ℕ → PacketRead
-read_signed sign n = pick (is_sign sign) (packet_read (Packet.G (signed sign n))) (PacketRead.Refused 9)
-
--- a row whose first 0x17 is at the place e
-unfoldable pub read_framed : List ℕ → ℕ → PacketRead
-read_framed row e = read_as (given (body_lines (drop 1 (take e row)))) (meaning (id_in (drop 1 (take e row))) (data_in (drop 1 (take e row))))
+-- what an id and its data read as
+unfoldable pub read_body : List ℕ → Result Packet Refusal
+read_body body = answered (given (body_lines body)) (meaning (id_in body) (data_in body))
 
 -- bytes put at a row's front, if it has room for them
-unfoldable pub put : List ℕ → ℕ → PacketWritten
-put bs room = pick (ltb room (length bs)) (packet_written 14 0) (packet_written 0 (length bs))
+unfoldable pub put : List ℕ → ℕ → Result ℕ Refusal
+put bs room = pick (ltb room (length bs)) (Err Refusal.ShortRow) (Ok (length bs))
 
 unfoldable pub put_into : List ℕ → List ℕ → List ℕ
 put_into bs row = pick (ltb (length row) (length bs)) row (bs ++ drop (length bs) row)

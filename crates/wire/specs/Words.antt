@@ -1,10 +1,10 @@
 -- Time words: five words, four decimal digits a word, highest digit first.
-use Rattle.std.specs.Prelude.{ℕ, ◌*◌, Bool, ◌&&◌, not, List, [], ◌∷◌, ◌++◌, take, drop, leb, ltb, eqb}
+use Rattle.std.specs.Prelude.{ℕ, ◌*◌, Bool, ◌&&◌, not, List, [], ◌∷◌, ◌++◌, Result, take, drop, leb, ltb}
 use Rattle.wire.specs.Digits.{pick, digits, num, below, packed, unpacked}
-use Rattle.wire.specs.Numbers.{◌if◌, given}
+use Rattle.wire.specs.Numbers.{◌if◌, given, answered, given_or}
 use Rattle.wire.specs.Time.{ticks_of_day, hour_of, minute_of, second_of, fraction_of, tick_at}
-use Rattle.wire.specs.declared.words.TimeRead.{TimeRead}
-use Rattle.wire.specs.declared.words.WordsWritten.{WordsWritten}
+use Rattle.wire.specs.declared.numbers.Refusal.{Refusal}
+use Rattle.wire.specs.declared.words.Moment.{Moment}
 
 -- the digits of the table, word for word
 unfoldable pub time_digits : ℕ → ℕ → List ℕ
@@ -32,8 +32,12 @@ unfoldable pub words_or_zero : ℕ → ℕ → List ℕ
 words_or_zero day tick = pick (writable day tick) (words_of day tick) zero_words
 
 -- writing words: 11 outside the ranges
-unfoldable pub write_words : ℕ → ℕ → WordsWritten
-write_words day tick = record { number = given (11 if not (writable day tick) ∷ []); words = words_or_zero day tick }
+unfoldable pub write_words : ℕ → ℕ → Result (List ℕ) Refusal
+write_words day tick = answered (given (11 if not (writable day tick) ∷ [])) (words_of day tick)
+
+-- the words that stand beside its number: five zero words beside a refusal
+abbrev pub words_written : ℕ → ℕ → List ℕ
+words_written day tick = given_or zero_words (write_words day tick)
 
 -- the number that k of the twenty digits write, from place i on
 unfoldable pub field : ℕ → ℕ → List ℕ → ℕ
@@ -73,15 +77,20 @@ digits_refusal ds =
     ∷ 11 if not (in_range (day_in ds) (hour_in ds) (minute_in ds) (second_in ds))
     ∷ [])
 
-abbrev pub time_read : ℕ → ℕ → ℕ → TimeRead
-time_read n day tick = record { number = n; day = day; tick = record { ticks = tick } }
+-- a day and a tick of it
+abbrev pub moment : ℕ → ℕ → Moment
+moment day tick = record { day = day; tick = record { ticks = tick } }
 
-unfoldable pub read_digits : List ℕ → TimeRead
-read_digits ds = pick (eqb (digits_refusal ds) 0) (time_read 0 (day_in ds) (tick_in ds)) (time_read (digits_refusal ds) 0 0)
+unfoldable pub read_digits : List ℕ → Result Moment Refusal
+read_digits ds = answered (digits_refusal ds) (moment (day_in ds) (tick_in ds))
 
 -- reading words
-unfoldable pub read_words : List ℕ → TimeRead
+unfoldable pub read_words : List ℕ → Result Moment Refusal
 read_words ws = read_digits (unpacked 16 4 ws)
+
+-- the day and the tick that stand beside its number: day 0 and tick 0 beside a refusal
+abbrev pub moment_read : List ℕ → Moment
+moment_read ws = given_or (moment 0 0) (read_words ws)
 
 -- WITHIN THE CRATE
 

@@ -3,7 +3,7 @@
 // No division leads from a number to its digits. It is given in shares of a unit, 2^47 to one: a shift gives the whole units, and the rest times sixty, or a hundred, is
 // given in shares of a unit that much smaller.
 ghost use Rattle.std.specs.Prelude.{◌≡◌, ◌<◌, ◌≤◌};
-ghost use Rattle.wire.specs.Digits.{digits, num, Splits, PairTable};
+ghost use Rattle.wire.specs.Digits.{digits, num, Splits};
 
 // How many shares make a unit.
 const SHARES_IN_UNIT: u64 = 0x8000_0000_0000;
@@ -21,12 +21,13 @@ pub(crate) fn split(x: u64) -> Counted
 {
     let count = x >> 47;
     Counted {
-        count: count,
+        count,
         rest: x - count * SHARES_IN_UNIT,
     }
 }
 
 // The number that two digits write.
+#[tactic(auto, unfolding(crate::specs::Digits::digits, crate::specs::Digits::num))]
 pub(crate) fn two(b: u16) -> u16
     requires { b < 256 }
     ensures { (result ≡ num 10 (digits 16 2 b)) × (result ≤ 165) }
@@ -34,15 +35,16 @@ pub(crate) fn two(b: u16) -> u16
     b / 16 * 10 + b % 16
 }
 
-// The table of pairs. Each call lays out a copy, so a caller asks once and reads it for all its pairs.
-pub(crate) fn pair_table() -> [u8; 100]
-    ensures { PairTable result }
+// The two digits of a number below a hundred.
+pub(crate) fn pair(n: u64) -> u16
+    requires { n < 100 }
+    ensures { (result ≡ num 16 (digits 10 2 n)) × (result < 256) }
 {
-    PAIRS
+    u16::from(PAIRS[n as usize])
 }
 
 // The two digits of each number below a hundred.
-const PAIRS: [u8; 100] = [
+static PAIRS: [u8; 100] = [
     0x00, 0x01, 0x02, 0x03, 0x04, 0x05, 0x06, 0x07, 0x08, 0x09, 0x10, 0x11, 0x12, 0x13, 0x14, 0x15,
     0x16, 0x17, 0x18, 0x19, 0x20, 0x21, 0x22, 0x23, 0x24, 0x25, 0x26, 0x27, 0x28, 0x29, 0x30, 0x31,
     0x32, 0x33, 0x34, 0x35, 0x36, 0x37, 0x38, 0x39, 0x40, 0x41, 0x42, 0x43, 0x44, 0x45, 0x46, 0x47,

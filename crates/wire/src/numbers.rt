@@ -1,52 +1,81 @@
-// Numbers given back, each under the name of its line in the table. Every crate takes them from here.
-pub const DONE: u8 = 0;
+// Refusals, each by its name, with the number that the page gives it. Every crate takes them from here.
+ghost use Rattle.std.specs.Prelude.{◌≡◌, Ok, Err};
+ghost use Rattle.wire.specs.Numbers.{number, number_of};
 
-pub const NO_REGISTER: u8 = 1;
+// Why a call refuses what it is handed.
+#[derive(Clone, Copy, Debug, PartialEq, Eq)]
+pub enum Refusal {
+    NoRegister = 1,
+    WrongDirection = 2,
+    QueueFull = 3,
+    NoStart = 4,
+    TooLong = 5,
+    NoEnd = 6,
+    UnknownId = 7,
+    WrongLength = 8,
+    WrongByte = 9,
+    NoMeaning = 10,
+    OutsideTime = 11,
+    OutsideDivider = 12,
+    OutsideStrobe = 13,
+    ShortRow = 14,
+    OverADay = 15,
+    Past9999 = 16,
+    BadDigit = 17,
+    Unlawful = 18,
+    NotSaved = 19,
+    OutsideSwitch = 20,
+    OutsidePeriod = 21,
+    WrongMarker = 22,
+    SpareSet = 23,
+    SecondsDiffer = 24,
+    JamOn = 25,
+}
 
-pub const WRONG_DIRECTION: u8 = 2;
+impl Refusal {
+    // The number of its line in the table.
+    pub fn number(self) -> u8
+        ensures { result ≡ number self }
+    {
+        self as u8
+    }
+}
 
-pub const QUEUE_FULL: u8 = 3;
+// What a call that changes something answers: what is there afterwards, and what it gives or why it refuses.
+#[derive(Clone, Copy)]
+pub struct Answer<S, T> {
+    pub after: S,
+    pub outcome: Result<T, Refusal>,
+}
 
-pub const NO_START: u8 = 4;
+impl<S, T> Answer<S, T> {
+    // The answer of a call that was done.
+    pub fn done(after: S, given: T) -> Self
+        ensures { result ≡ record { after = after; outcome = Ok given } }
+    {
+        Answer {
+            after,
+            outcome: Ok(given),
+        }
+    }
 
-pub const TOO_LONG: u8 = 5;
+    // The answer of one that was refused.
+    pub fn refused(after: S, refusal: Refusal) -> Self
+        ensures { result ≡ record { after = after; outcome = Err refusal } }
+    {
+        Answer {
+            after,
+            outcome: Err(refusal),
+        }
+    }
+}
 
-pub const NO_END: u8 = 6;
-
-pub const UNKNOWN_ID: u8 = 7;
-
-pub const WRONG_LENGTH: u8 = 8;
-
-pub const WRONG_BYTE: u8 = 9;
-
-pub const NO_MEANING: u8 = 10;
-
-pub const OUTSIDE_TIME: u8 = 11;
-
-pub const OUTSIDE_DIVIDER: u8 = 12;
-
-pub const OUTSIDE_STROBE: u8 = 13;
-
-pub const SHORT_ROW: u8 = 14;
-
-pub const OVER_A_DAY: u8 = 15;
-
-pub const PAST_9999: u8 = 16;
-
-pub const BAD_DIGIT: u8 = 17;
-
-pub const UNLAWFUL: u8 = 18;
-
-pub const NOT_SAVED: u8 = 19;
-
-pub const OUTSIDE_SWITCH: u8 = 20;
-
-pub const OUTSIDE_PERIOD: u8 = 21;
-
-pub const WRONG_MARKER: u8 = 22;
-
-pub const SPARE_SET: u8 = 23;
-
-pub const SECONDS_DIFFER: u8 = 24;
-
-pub const JAM_ON: u8 = 25;
+// The number of an outcome: 0 if the call was done, else that of its refusal.
+pub fn number_of<T>(outcome: &Result<T, Refusal>) -> u8
+    ensures { result ≡ number_of outcome.now }
+{
+    match outcome {
+        Ok(_) => 0,
+        Err(refusal) => refusal.number(),
+    }
+}

@@ -1,12 +1,13 @@
 // Packets A, G, H, I and K, read from a row of bytes and written into one.
-ghost use Rattle.std.specs.Prelude.{◌≡◌, [], ◌∷◌, ◌<◌, ◌≤◌, min, length, nat_abs};
-ghost use Rattle.wire.specs.Digits.{digits};
-ghost use Rattle.wire.specs.Packets.{mode_means, pair_means, offset_fits, offset_large, needs_jam_off, packet_read, letter_of_format, letter_of_modulation, letter_of_clock, letter_of_generator, ascii, sign_of, framed, place_of, read_body, read_pair, read_signed, read_framed, read_number, read_packet, write_packet, row_written, put, put_into};
+ghost use Rattle.std.specs.Prelude.{◌≡◌, ◌∷◌, ◌<◌, ◌≤◌, ◌+◌, ◌/◌, ◌%◌, ℕ, eqb, length, nat_abs, Result, Ok};
+ghost use Rattle.std.specs.List.{position};
+ghost use Rattle.wire.specs.declared.numbers.Refusal.{Refusal};
+ghost use Rattle.wire.specs.Packets.{mode_means, pair_means, offset_fits, offset_large, needs_jam_off, letter_of_format, letter_of_modulation, letter_of_clock, letter_of_generator, read_format, read_modulation, read_clock, read_generator, format_letter, modulation_letter, clock_letter, generator_letter, sign_of, framed, read_one, read_body, read_number, read_packet, write_packet, row_written, put, put_into};
 
-use crate::numbers;
+use crate::numbers::Refusal;
 
 // The time code's format, by its letter.
-#[derive(Clone, Copy)]
+#[derive(Clone, Copy, Debug, PartialEq, Eq)]
 pub enum Format {
     A,
     B,
@@ -16,28 +17,28 @@ pub enum Format {
 }
 
 // Its modulation: an amplitude modulated carrier, or DC levels.
-#[derive(Clone, Copy)]
+#[derive(Clone, Copy, Debug, PartialEq, Eq)]
 pub enum Modulation {
     M,
     D,
 }
 
 // Which clock the card runs on.
-#[derive(Clone, Copy)]
+#[derive(Clone, Copy, Debug, PartialEq, Eq)]
 pub enum ClockSource {
     External,
     Internal,
 }
 
 // The code that the generator writes, by its letter.
-#[derive(Clone, Copy)]
+#[derive(Clone, Copy, Debug, PartialEq, Eq)]
 pub enum Generator {
     B,
     H,
 }
 
 // One packet, by its id: A mode, G offset in ticks, H format and modulation, I clock source, K generator code.
-#[derive(Clone, Copy)]
+#[derive(Clone, Copy, Debug, PartialEq, Eq)]
 pub enum Packet {
     A(u8),
     G(i32),
@@ -46,95 +47,146 @@ pub enum Packet {
     K(Generator),
 }
 
-// What a row reads as: a packet and whether it needs the jam off, or the number of the refusal.
-#[derive(Clone, Copy)]
-pub enum PacketRead {
-    Is(Packet, bool),
-    Refused(u8),
+// What a row reads as: a packet, and whether it needs the jam off.
+#[derive(Clone, Copy, Debug, PartialEq, Eq)]
+pub struct PacketRead {
+    pub packet: Packet,
+    pub needs_jam_off: bool,
 }
 
-// What writing answers: its number and the bytes written, 0 beside a refusal.
-#[derive(Clone, Copy)]
-pub struct PacketWritten {
-    pub number: u8,
-    pub bytes: usize,
+// A setting that stands in a packet as one letter.
+pub trait Letter: Copy {
+    ghost letter_of: { Self → ℕ };
+
+    ghost letter_read: { ℕ → Result Self Refusal };
+
+    fn letter(self) -> u8
+        ensures { result ≡ letter_of self };
+
+    // The setting that a letter stands for; 9 for any other byte.
+    fn of_letter(b: u8) -> Result<Self, Refusal>
+        ensures { result ≡ letter_read b };
+
+    // Each letter reads as the setting that it is written for.
+    ghost back: { (x : Self) → letter_read (letter_of x) ≡ Ok x };
 }
 
-// The number that ASCII digits write.
-#[derive(Clone, Copy)]
-enum Number {
-    Is(u32),
-    Bad,
+impl Letter for Format {
+    ghost letter_of = { letter_of_format };
+
+    ghost letter_read = { read_format };
+
+    ghost back = { format_letter };
+
+    fn letter(self) -> u8 {
+        match self {
+            Format::A => b'A',
+            Format::B => b'B',
+            Format::C => b'C',
+            Format::N => b'N',
+            Format::X => b'X',
+        }
+    }
+
+    #[tactic(auto, unfolding(crate::specs::Packets::format_of))]
+    fn of_letter(b: u8) -> Result<Self, Refusal> {
+        match b {
+            b'A' => Ok(Format::A),
+            b'B' => Ok(Format::B),
+            b'C' => Ok(Format::C),
+            b'N' => Ok(Format::N),
+            b'X' => Ok(Format::X),
+            _ => Err(Refusal::WrongByte),
+        }
+    }
+}
+
+impl Letter for Modulation {
+    ghost letter_of = { letter_of_modulation };
+
+    ghost letter_read = { read_modulation };
+
+    ghost back = { modulation_letter };
+
+    fn letter(self) -> u8 {
+        match self {
+            Modulation::M => b'M',
+            Modulation::D => b'D',
+        }
+    }
+
+    #[tactic(auto, unfolding(crate::specs::Packets::modulation_of))]
+    fn of_letter(b: u8) -> Result<Self, Refusal> {
+        match b {
+            b'M' => Ok(Modulation::M),
+            b'D' => Ok(Modulation::D),
+            _ => Err(Refusal::WrongByte),
+        }
+    }
+}
+
+impl Letter for ClockSource {
+    ghost letter_of = { letter_of_clock };
+
+    ghost letter_read = { read_clock };
+
+    ghost back = { clock_letter };
+
+    fn letter(self) -> u8 {
+        match self {
+            ClockSource::External => b'E',
+            ClockSource::Internal => b'I',
+        }
+    }
+
+    #[tactic(auto, unfolding(crate::specs::Packets::clock_of))]
+    fn of_letter(b: u8) -> Result<Self, Refusal> {
+        match b {
+            b'E' => Ok(ClockSource::External),
+            b'I' => Ok(ClockSource::Internal),
+            _ => Err(Refusal::WrongByte),
+        }
+    }
+}
+
+impl Letter for Generator {
+    ghost letter_of = { letter_of_generator };
+
+    ghost letter_read = { read_generator };
+
+    ghost back = { generator_letter };
+
+    fn letter(self) -> u8 {
+        match self {
+            Generator::B => b'B',
+            Generator::H => b'H',
+        }
+    }
+
+    #[tactic(auto, unfolding(crate::specs::Packets::generator_of))]
+    fn of_letter(b: u8) -> Result<Self, Refusal> {
+        match b {
+            b'B' => Ok(Generator::B),
+            b'H' => Ok(Generator::H),
+            _ => Err(Refusal::WrongByte),
+        }
+    }
 }
 
 // Modes 4 and 7 have no meaning.
 pub fn mode_means(mode: u8) -> bool
     ensures { result ≡ mode_means mode }
 {
-    if mode == 4 {
-        return false;
-    }
-    mode != 7
+    mode != 4 && mode != 7
 }
 
 // Format A goes only with D; C and X only with M.
 pub fn pair_means(f: Format, m: Modulation) -> bool
     ensures { result ≡ pair_means f m }
 {
-    match f {
-        Format::A => match m {
-            Modulation::M => false,
-            Modulation::D => true,
-        },
-        Format::B => true,
-        Format::C => match m {
-            Modulation::M => true,
-            Modulation::D => false,
-        },
-        Format::N => true,
-        Format::X => match m {
-            Modulation::M => true,
-            Modulation::D => false,
-        },
-    }
-}
-
-pub fn format_letter(f: Format) -> u8
-    ensures { result ≡ letter_of_format f }
-{
-    match f {
-        Format::A => b'A',
-        Format::B => b'B',
-        Format::C => b'C',
-        Format::N => b'N',
-        Format::X => b'X',
-    }
-}
-
-pub fn modulation_letter(m: Modulation) -> u8
-    ensures { result ≡ letter_of_modulation m }
-{
     match m {
-        Modulation::M => b'M',
-        Modulation::D => b'D',
-    }
-}
-
-pub fn clock_letter(c: ClockSource) -> u8
-    ensures { result ≡ letter_of_clock c }
-{
-    match c {
-        ClockSource::External => b'E',
-        ClockSource::Internal => b'I',
-    }
-}
-
-pub fn generator_letter(g: Generator) -> u8
-    ensures { result ≡ letter_of_generator g }
-{
-    match g {
-        Generator::B => b'B',
-        Generator::H => b'H',
+        Modulation::M => !matches!(f, Format::A),
+        Modulation::D => !matches!(f, Format::C | Format::X),
     }
 }
 
@@ -142,11 +194,7 @@ pub fn generator_letter(g: Generator) -> u8
 pub fn offset_size(offset: i32) -> u32
     ensures { result ≡ nat_abs offset }
 {
-    let wide = offset as i64;
-    if wide < 0 {
-        return (0 - wide) as u32;
-    }
-    wide as u32
+    offset.unsigned_abs()
 }
 
 // An offset of at most seven digits, either way.
@@ -168,351 +216,212 @@ pub fn needs_jam_off(p: Packet) -> bool
     ensures { result ≡ needs_jam_off p }
 {
     match p {
-        Packet::A(mode) => false,
         Packet::G(offset) => offset_large(offset),
-        Packet::H(f, m) => false,
-        Packet::I(c) => false,
-        Packet::K(g) => false,
+        _ => false,
     }
 }
 
-// The answer that a packet is read.
-fn packet_read(p: Packet) -> PacketRead
-    ensures { result ≡ packet_read p }
-{
-    PacketRead::Is(p, needs_jam_off(p))
-}
-
+#[tactic(auto, using(crate::proofs::packets::Signs::sign_minus, crate::proofs::packets::Signs::sign_plus))]
 fn sign_of(offset: i32) -> u8
     ensures { result ≡ sign_of offset }
 {
     if offset < 0 { b'-' } else { b'+' }
 }
 
-// The place of the first 0x17, or the row's length where there is none.
-fn end_of(row: &[u8]) -> usize
-    ensures { result ≡ place_of 0x17 row.now }
+// The place of the first 0x17, if there is one.
+fn end_of(row: &[u8]) -> Option<usize>
+    ensures { result ≡ position (λ b. eqb b 0x17) row.now }
 {
-    let mut i = 0;
-    while i < row.len() {
-        if row[i] == 0x17 {
-            return i;
-        }
-        i += 1;
-    }
-    i
+    row.iter().position(|&b| b == 0x17)
 }
 
-// The number that digits write, or that one of them is none.
-fn number_of(bytes: &[u8]) -> Number
-    requires { length bytes.now ≤ 9 }
-    ensures { result ≡ read_number bytes.now }
+// The number that digits write, or none if one of them is no digit.
+fn read_number(digits: &[u8]) -> Option<u32>
+    requires { length digits.now ≤ 9 }
+    ensures { result ≡ read_number digits.now }
 {
-    let mut acc: u32 = 0;
-    let mut i = 0;
-    while i < bytes.len() {
-        let b = bytes[i];
-        if b < 48 {
-            return Number::Bad;
+    let mut n = 0;
+    for &b in digits {
+        if !b.is_ascii_digit() {
+            return None;
         }
-        if 57 < b {
-            return Number::Bad;
-        }
-        acc = acc * 10 + ((b - 48) as u32);
-        i += 1;
+        n = n * 10 + u32::from(b - b'0');
     }
-    Number::Is(acc)
+    Some(n)
 }
 
 // Data of packet A: one digit.
-fn read_mode(bytes: &[u8]) -> PacketRead
-    ensures { result ≡ read_body 0x41 bytes.now }
+#[tactic(auto, using(crate::proofs::packets::Laws::mode_length, crate::proofs::packets::Laws::mode_byte, crate::proofs::packets::Laws::mode_meaning, crate::proofs::packets::Laws::mode_read))]
+fn read_mode(bytes: &[u8]) -> Result<Packet, Refusal>
+    ensures { result ≡ read_body (0x41 ∷ bytes.now) }
 {
-    if bytes.len() != 1 {
-        return PacketRead::Refused(numbers::WRONG_LENGTH);
+    let mode = match bytes {
+        &[digit @ b'0'..=b'7'] => digit - b'0',
+        [_] => return Err(Refusal::WrongByte),
+        _ => return Err(Refusal::WrongLength),
+    };
+    if !mode_means(mode) {
+        return Err(Refusal::NoMeaning);
     }
-    let b = bytes[0];
-    if b < 48 {
-        return PacketRead::Refused(numbers::WRONG_BYTE);
-    }
-    if 55 < b {
-        return PacketRead::Refused(numbers::WRONG_BYTE);
-    }
-    if !mode_means(b - 48) {
-        return PacketRead::Refused(numbers::NO_MEANING);
-    }
-    packet_read(Packet::A(b - 48))
-}
-
-// A sign in front of a number of seven digits.
-fn with_sign(sign: u8, n: u32) -> PacketRead
-    requires { n ≤ 9999999 }
-    ensures { result ≡ read_signed sign n }
-{
-    match sign {
-        43 => packet_read(Packet::G(n as i32)),
-        45 => packet_read(Packet::G(0 - (n as i32))),
-        _ => PacketRead::Refused(numbers::WRONG_BYTE),
-    }
+    Ok(Packet::A(mode))
 }
 
 // Data of packet G: a sign and seven digits.
-fn read_offset(bytes: &[u8]) -> PacketRead
-    ensures { result ≡ read_body 0x47 bytes.now }
+fn read_offset(bytes: &[u8]) -> Result<Packet, Refusal>
+    ensures { result ≡ read_body (0x47 ∷ bytes.now) }
 {
-    if bytes.len() != 8 {
-        return PacketRead::Refused(numbers::WRONG_LENGTH);
-    }
-    let sign = bytes[0];
-    let digits = number_of(&bytes[1..8]);
-    match digits {
-        Number::Bad => PacketRead::Refused(numbers::WRONG_BYTE),
-        Number::Is(n) => with_sign(sign, n),
-    }
-}
-
-// What a format's letter and a modulation give.
-fn read_pair(f: Format, m: u8) -> PacketRead
-    ensures { result ≡ read_pair f m }
-{
-    match m {
-        77 => if pair_means(f, Modulation::M) {
-            packet_read(Packet::H(f, Modulation::M))
-        } else {
-            PacketRead::Refused(numbers::NO_MEANING)
-        },
-        68 => if pair_means(f, Modulation::D) {
-            packet_read(Packet::H(f, Modulation::D))
-        } else {
-            PacketRead::Refused(numbers::NO_MEANING)
-        },
-        _ => PacketRead::Refused(numbers::WRONG_BYTE),
+    let (sign, digits) = match bytes {
+        [sign, digits @ ..] if digits.len() == 7 => (sign, digits),
+        _ => return Err(Refusal::WrongLength),
+    };
+    let size = read_number(digits).ok_or(Refusal::WrongByte)? as i32;
+    match sign {
+        b'+' => Ok(Packet::G(size)),
+        b'-' => Ok(Packet::G(-size)),
+        _ => Err(Refusal::WrongByte),
     }
 }
 
 // Data of packet H: a format and a modulation.
-fn read_format(bytes: &[u8]) -> PacketRead
-    ensures { result ≡ read_body 0x48 bytes.now }
+#[tactic(auto, using(crate::proofs::packets::Laws::format_length))]
+fn read_format(bytes: &[u8]) -> Result<Packet, Refusal>
+    ensures { result ≡ read_body (0x48 ∷ bytes.now) }
 {
-    if bytes.len() != 2 {
-        return PacketRead::Refused(numbers::WRONG_LENGTH);
+    let &[f, m] = bytes else {
+        return Err(Refusal::WrongLength);
+    };
+    let format = Format::of_letter(f)?;
+    let modulation = Modulation::of_letter(m)?;
+    if !pair_means(format, modulation) {
+        return Err(Refusal::NoMeaning);
     }
-    let f = bytes[0];
-    let m = bytes[1];
-    match f {
-        65 => read_pair(Format::A, m),
-        66 => read_pair(Format::B, m),
-        67 => read_pair(Format::C, m),
-        78 => read_pair(Format::N, m),
-        88 => read_pair(Format::X, m),
-        _ => PacketRead::Refused(numbers::WRONG_BYTE),
+    Ok(Packet::H(format, modulation))
+}
+
+// Data of packets I and K: one letter.
+fn read_letter<L: Letter>(bytes: &[u8]) -> Result<L, Refusal>
+    ensures { result ≡ read_one L.letter_read bytes.now }
+{
+    match bytes {
+        &[b] => L::of_letter(b),
+        _ => Err(Refusal::WrongLength),
     }
 }
 
-// Data of packet I: one letter.
-fn read_clock(bytes: &[u8]) -> PacketRead
-    ensures { result ≡ read_body 0x49 bytes.now }
+// What stands between 0x01 and the first 0x17: an id and its data.
+fn read_body(body: &[u8]) -> Result<Packet, Refusal>
+    ensures { result ≡ read_body body.now }
 {
-    if bytes.len() != 1 {
-        return PacketRead::Refused(numbers::WRONG_LENGTH);
-    }
-    let b = bytes[0];
-    match b {
-        69 => packet_read(Packet::I(ClockSource::External)),
-        73 => packet_read(Packet::I(ClockSource::Internal)),
-        _ => PacketRead::Refused(numbers::WRONG_BYTE),
-    }
-}
-
-// Data of packet K: one letter.
-fn read_generator(bytes: &[u8]) -> PacketRead
-    ensures { result ≡ read_body 0x4B bytes.now }
-{
-    if bytes.len() != 1 {
-        return PacketRead::Refused(numbers::WRONG_LENGTH);
-    }
-    let b = bytes[0];
-    match b {
-        66 => packet_read(Packet::K(Generator::B)),
-        72 => packet_read(Packet::K(Generator::H)),
-        _ => PacketRead::Refused(numbers::WRONG_BYTE),
-    }
-}
-
-fn read_body(id: u8, bytes: &[u8]) -> PacketRead
-    ensures { result ≡ read_body id bytes.now }
-{
+    let [id, bytes @ ..] = body else {
+        return Err(Refusal::UnknownId);
+    };
     match id {
-        65 => read_mode(bytes),
-        71 => read_offset(bytes),
-        72 => read_format(bytes),
-        73 => read_clock(bytes),
-        75 => read_generator(bytes),
-        _ => PacketRead::Refused(numbers::UNKNOWN_ID),
+        b'A' => read_mode(bytes),
+        b'G' => read_offset(bytes),
+        b'H' => read_format(bytes),
+        b'I' => Ok(Packet::I(read_letter(bytes)?)),
+        b'K' => Ok(Packet::K(read_letter(bytes)?)),
+        _ => Err(Refusal::UnknownId),
     }
-}
-
-// A row whose first 0x17 is at `end`.
-fn read_framed(row: &[u8], end: usize) -> PacketRead
-    requires { (1 ≤ end) × (end < length row.now) }
-    ensures { result ≡ read_framed row.now end }
-{
-    if end == 1 {
-        return PacketRead::Refused(numbers::UNKNOWN_ID);
-    }
-    let from: usize = 2;
-    read_body(row[1], &row[from..end])
-}
-
-// How many bytes of a row are looked at.
-fn looked_at(len: usize) -> usize
-    ensures { result ≡ min 41 len }
-{
-    if len < 41 { len } else { 41 }
 }
 
 // What a row of bytes reads as. One pass over at most 41 bytes: none behind them, and none behind the first 0x17, is looked at.
-pub fn read_packet(row: &[u8]) -> PacketRead
+pub fn read_packet(row: &[u8]) -> Result<PacketRead, Refusal>
     ensures { result ≡ read_packet row.now }
 {
-    if row.len() == 0 {
-        return PacketRead::Refused(numbers::NO_START);
-    }
-    if row[0] != 0x01 {
-        return PacketRead::Refused(numbers::NO_START);
-    }
-    let from: usize = 0;
-    let upto = looked_at(row.len());
-    let end = end_of(&row[from..upto]);
-    if end < upto {
-        return read_framed(row, end);
-    }
-    if 41 <= row.len() {
-        return PacketRead::Refused(numbers::TOO_LONG);
-    }
-    PacketRead::Refused(numbers::NO_END)
+    let [0x01, ..] = row else {
+        return Err(Refusal::NoStart);
+    };
+    let looked_at = row.len().min(41);
+    let Some(end) = end_of(&row[..looked_at]) else {
+        return Err(if looked_at == 41 {
+            Refusal::TooLong
+        } else {
+            Refusal::NoEnd
+        });
+    };
+    let packet = read_body(&row[1..end])?;
+    Ok(PacketRead {
+        packet,
+        needs_jam_off: needs_jam_off(packet),
+    })
 }
 
-// One data byte between id and end, if there is room.
-fn put_one(row: &mut [u8], id: u8, b: u8) -> PacketWritten
-    ensures { (result ≡ put (framed id (b ∷ [])) (length row.old)) × (row.new ≡ put_into (framed id (b ∷ [])) row.old) }
+// A packet's id and data at the front of a row, between 0x01 and 0x17: how many bytes that makes, if there is room.
+fn put<const N: usize>(id: u8, bytes: [u8; N], row: &mut [u8]) -> Result<usize, Refusal>
+    requires { N ≤ 8 }
+    ensures { (result ≡ put (framed id bytes.entry) (length row.old)) × (row.new ≡ put_into (framed id bytes.entry) row.old) }
 {
-    if row.len() < 4 {
-        return PacketWritten {
-            number: numbers::SHORT_ROW,
-            bytes: 0,
-        };
+    if row.len() < N + 3 {
+        return Err(Refusal::ShortRow);
     }
     row[0] = 0x01;
     row[1] = id;
-    row[2] = b;
-    row[3] = 0x17;
-    PacketWritten {
-        number: numbers::DONE,
-        bytes: 4,
-    }
+    row[2..N + 2].copy_from_slice(&bytes);
+    row[N + 2] = 0x17;
+    Ok(N + 3)
 }
 
-// Packet H's two letters.
-fn put_two(row: &mut [u8], f: u8, m: u8) -> PacketWritten
-    ensures { (result ≡ put (framed 0x48 (f ∷ m ∷ [])) (length row.old)) × (row.new ≡ put_into (framed 0x48 (f ∷ m ∷ [])) row.old) }
+// A number's decimal digit that a power of ten counts.
+fn digit(n: u32, power: u32) -> u8
+    requires { 0 < power }
+    ensures { result ≡ 48 + n / power % 10 }
 {
-    if row.len() < 5 {
-        return PacketWritten {
-            number: numbers::SHORT_ROW,
-            bytes: 0,
-        };
-    }
-    row[0] = 0x01;
-    row[1] = b'H';
-    row[2] = f;
-    row[3] = m;
-    row[4] = 0x17;
-    PacketWritten {
-        number: numbers::DONE,
-        bytes: 5,
-    }
+    b'0' + (n / power % 10) as u8
 }
 
-// Packet G's sign and seven digits.
-fn put_offset(row: &mut [u8], sign: u8, n: u32) -> PacketWritten
-    ensures { (result ≡ put (framed 0x47 (sign ∷ ascii (digits 10 7 n))) (length row.old)) × (row.new ≡ put_into (framed 0x47 (sign ∷ ascii (digits 10 7 n))) row.old) }
-{
-    if row.len() < 11 {
-        return PacketWritten {
-            number: numbers::SHORT_ROW,
-            bytes: 0,
-        };
-    }
-    row[0] = 0x01;
-    row[1] = b'G';
-    row[2] = sign;
-    row[3] = (48 + n / 1_000_000 % 10) as u8;
-    row[4] = (48 + n / 100_000 % 10) as u8;
-    row[5] = (48 + n / 10_000 % 10) as u8;
-    row[6] = (48 + n / 1_000 % 10) as u8;
-    row[7] = (48 + n / 100 % 10) as u8;
-    row[8] = (48 + n / 10 % 10) as u8;
-    row[9] = (48 + n % 10) as u8;
-    row[10] = 0x17;
-    PacketWritten {
-        number: numbers::DONE,
-        bytes: 11,
-    }
-}
-
-fn write_mode(mode: u8, row: &mut [u8]) -> PacketWritten
+fn write_mode(mode: u8, row: &mut [u8]) -> Result<usize, Refusal>
     ensures { (result ≡ write_packet (Packet.A mode) (length row.old)) × (row.new ≡ row_written (Packet.A mode) row.old) }
 {
     if 7 < mode {
-        return PacketWritten {
-            number: numbers::WRONG_BYTE,
-            bytes: 0,
-        };
+        return Err(Refusal::WrongByte);
     }
     if !mode_means(mode) {
-        return PacketWritten {
-            number: numbers::NO_MEANING,
-            bytes: 0,
-        };
+        return Err(Refusal::NoMeaning);
     }
-    put_one(row, b'A', 48 + mode)
+    put(b'A', [b'0' + mode], row)
 }
 
-fn write_offset(offset: i32, row: &mut [u8]) -> PacketWritten
+// A sign and seven digits.
+fn write_offset(offset: i32, row: &mut [u8]) -> Result<usize, Refusal>
     ensures { (result ≡ write_packet (Packet.G offset) (length row.old)) × (row.new ≡ row_written (Packet.G offset) row.old) }
 {
     if !offset_fits(offset) {
-        return PacketWritten {
-            number: numbers::WRONG_BYTE,
-            bytes: 0,
-        };
+        return Err(Refusal::WrongByte);
     }
-    put_offset(row, sign_of(offset), offset_size(offset))
+    let n = offset_size(offset);
+    let bytes = [
+        sign_of(offset),
+        digit(n, 1_000_000),
+        digit(n, 100_000),
+        digit(n, 10_000),
+        digit(n, 1_000),
+        digit(n, 100),
+        digit(n, 10),
+        digit(n, 1),
+    ];
+    put(b'G', bytes, row)
 }
 
-fn write_format(f: Format, m: Modulation, row: &mut [u8]) -> PacketWritten
+fn write_format(f: Format, m: Modulation, row: &mut [u8]) -> Result<usize, Refusal>
     ensures { (result ≡ write_packet (Packet.H f m) (length row.old)) × (row.new ≡ row_written (Packet.H f m) row.old) }
 {
     if !pair_means(f, m) {
-        return PacketWritten {
-            number: numbers::NO_MEANING,
-            bytes: 0,
-        };
+        return Err(Refusal::NoMeaning);
     }
-    put_two(row, format_letter(f), modulation_letter(m))
+    put(b'H', [f.letter(), m.letter()], row)
 }
 
 // A packet's bytes at the front of a row: 9 for a mode above 7 or an offset beyond seven digits, 10 for one without a meaning, 14 where the
 // row is too short. Places behind the bytes, and the whole row beside a refusal, stay as they were.
-pub fn write_packet(p: Packet, row: &mut [u8]) -> PacketWritten
+pub fn write_packet(p: Packet, row: &mut [u8]) -> Result<usize, Refusal>
     ensures { (result ≡ write_packet p (length row.old)) × (row.new ≡ row_written p row.old) }
 {
     match p {
         Packet::A(mode) => write_mode(mode, row),
         Packet::G(offset) => write_offset(offset, row),
         Packet::H(f, m) => write_format(f, m, row),
-        Packet::I(c) => put_one(row, b'I', clock_letter(c)),
-        Packet::K(g) => put_one(row, b'K', generator_letter(g)),
+        Packet::I(c) => put(b'I', [c.letter()], row),
+        Packet::K(g) => put(b'K', [g.letter()], row),
     }
 }

@@ -6,32 +6,35 @@ ghost use Rattle.wire.specs.Time.{ticks_of, tick_at};
 pub const TICKS_OF_DAY: u64 = 864_000_000_000;
 
 // A span or an instant in ticks of 100 ns.
-#[derive(Clone, Copy)]
+#[derive(Clone, Copy, Debug, PartialEq, Eq, PartialOrd, Ord)]
 pub struct Ticks {
     pub ticks: u64,
 }
 
 // A span or an instant in milliseconds.
-#[derive(Clone, Copy)]
+#[derive(Clone, Copy, Debug, PartialEq, Eq, PartialOrd, Ord)]
 pub struct Milliseconds {
     pub ms: u32,
 }
 
 // The first tick of a millisecond.
-pub fn ticks_of(t: Milliseconds) -> Ticks
-    ensures { result ≡ ticks_of t }
-{
-    Ticks {
-        ticks: (t.ms as u64) * 10_000,
+impl From<Milliseconds> for Ticks {
+    ghost from_gives = { λ t ticks. ticks ≡ ticks_of t };
+
+    fn from(t: Milliseconds) -> Ticks {
+        Ticks {
+            ticks: u64::from(t.ms) * 10_000,
+        }
     }
 }
 
 // The tick of day of a time of day. The fraction of the second is in ticks.
+#[tactic(auto, unfolding(crate::specs::Time::tick_at))]
 pub fn tick_at(hour: u16, minute: u16, second: u16, fraction: u32) -> Ticks
     ensures { result.ticks ≡ tick_at hour minute second fraction }
 {
-    let seconds = ((hour as u64) * 60 + (minute as u64)) * 60 + (second as u64);
+    let seconds = (u64::from(hour) * 60 + u64::from(minute)) * 60 + u64::from(second);
     Ticks {
-        ticks: seconds * 10_000_000 + (fraction as u64),
+        ticks: seconds * 10_000_000 + u64::from(fraction),
     }
 }

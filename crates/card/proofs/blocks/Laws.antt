@@ -7,11 +7,14 @@ use native.Mathlib.Nat.{mod-eq_of_lt, zero-min, min-zero, suc-min-suc, min-le_le
 use native.Mathlib.Numerals.{add-one}
 use native.Mathlib.Omega.{arith}
 use lib.Dec.{ltb, leb-suc-suc, leb-suc-zero, leb-zero}
-use lib.ListN.{length, take, drop, set, get_or, replicate, length-set, length-take, length-drop}
-use lib.Seq.{paste, paste-suc, paste-zero, take-suc-set, length-take-le, drop-drop}
+use lib.ListN.{length, take, drop, set, replicate, length-set, length-take, length-drop}
+use lib.Seq.{take-take, paste, paste-zero, take-suc-set, length-take-le, drop-drop}
 use borrow.Author.Tests.{lt-ltb, le-ltb}
 use Rattle.wire.specs.Digits.{pick, below}
-use Rattle.wire.specs.Numbers.{given}
+use Rattle.std.specs.Prelude.{Result, Ok, Err, ⊤}
+use Rattle.wire.specs.Numbers.{given, answered, number_of}
+use Rattle.wire.specs.declared.numbers.Refusal.{Refusal}
+use Rattle.wire.proofs.numbers.Names.{given_number, unlawful_named, queue_full_named}
 use Rattle.wire.proofs.digits.Laws.{below_at, below_take, below_drop, zeros}
 use Rattle.parts.specs.declared.queue.Queue.{Queue}
 use Rattle.parts.specs.Queues.{queued, enqueued, queue_lawful}
@@ -24,11 +27,6 @@ use Rattle.card.specs.Lawful.{lawful}
 use Rattle.card.specs.Registers.{write_register}
 use Rattle.card.proofs.lawful.Laws.{Parts, parts, whole}
 use Rattle.card.proofs.registers.Laws.{queue_within, fifo_3, fifo_joins}
-
--- one byte more of a row is stored
-pub stored_more : (d : List ℕ) (at : ℕ) (s : List ℕ) (i : ℕ) (bytes : List ℕ) → bytes ≡ paste d at s i → at + i < length d → i < length s
-    → set bytes (at + i) (get_or s i 0) ≡ paste d at s (i + 1)
-stored_more d at s i bytes e h l = ap (λ (b : List ℕ). set b (at + i) (get_or s i 0)) e ∙ rw add-one (paste-suc d at s i 0 h l)
 
 -- ---- one after another
 
@@ -49,20 +47,20 @@ unfolding one_by_one
 ends [] c zero l h = refl
 ends [] c (suc k) l h = ap (λ (t : Bool). block_answer c (pick t 3 0) 0) (sym (leb-suc-zero (suc k)))
 ends (b ∷ bs) c zero l h =
-    let w : write_register c 13 b ≡ answer c 3 = sym (fifo_3 c b true (sym l) refl (omega arith)) in
-    rw w (simp (leb-suc-suc 0 (length bs), leb-zero (length bs)))
+    let w : write_register c 13 b ≡ answer c 3 = fifo_3 c b l (omega arith) in
+    rw w (simp (queue_full_named, leb-suc-suc 0 (length bs), leb-zero (length bs)))
 ends (b ∷ bs) c (suc k) l h =
     let q : Queue = enqueued c.queue (b % 256) in
-    let w : write_register c 13 b ≡ answer (with_queue c q) 0 = sym (fifo_joins c b true (sym l) refl (λ e. omega arith) (set c.queue.bytes c.queue.fill (b % 256)) refl) in
+    let w : write_register c 13 b ≡ answer (with_queue c q) 0 = fifo_joins c b l (λ e. omega arith) in
     let n : 1 + length (take k bs) ≡ suc (length (take k bs)) = omega arith in
     rw w (ap (behind 1) (ends bs (with_queue c q) k (joins_lawful c (b % 256) l (omega arith)) (omega arith))
     ∙ ap (block_answer (with_queue c (filled q (take k bs))) (pick (ltb k (length bs)) 3 0)) n
     ∙ ap (λ (t : Bool). block_answer (with_queue c (filled q (take k bs))) (pick t 3 0) (suc (length (take k bs)))) (sym (leb-suc-suc (suc k) (length bs))))
 
 -- refused by 18
-pub block_18 : (c : Card) (row : List ℕ) (k : Bool) → k ≡ lawful c → k ≡ false → block_answer c 18 0 ≡ write_block c row
+pub block_18 : (c : Card) (row : List ℕ) → lawful c ≡ false → record { card = c; taken = 0; outcome = Err Refusal.Unlawful } ≡ write_block c row
 unfolding write_block
-block_18 c row k e f = simp (sym e ∙ f)
+block_18 c row e = simp (e, unlawful_named)
 
 pub free_places : (q : Queue) → q.fill ≤ 64 → q.fill + free q ≡ 64
 free_places q h = omega arith
@@ -80,15 +78,15 @@ block_is c row l =
     ∙ ap₂ (block_answer (with_queue c (filled c.queue (take (free c.queue) row)))) (table true c.queue row refl) (length-take (free c.queue) row))
 
 -- of every card: the number of its table
-pub block_number : (c : Card) (row : List ℕ) → (write_block c row).number ≡ given (block_lines (lawful c) c.queue row)
+pub block_number : (c : Card) (row : List ℕ) → number_of (write_block c row).outcome ≡ given (block_lines (lawful c) c.queue row)
 block_number c row = go (lawful c) refl
   where
-    go : (t : Bool) → lawful c ≡ t → (write_block c row).number ≡ given (block_lines (lawful c) c.queue row)
-    go true l = ap (λ (r : BlockAnswer). r.number) (block_is c row l)
-    go false l = ap (λ (r : BlockAnswer). r.number) (sym (block_18 c row (lawful c) refl l)) ∙ simp l
+    go : (t : Bool) → lawful c ≡ t → number_of (write_block c row).outcome ≡ given (block_lines (lawful c) c.queue row)
+    go true l = ap (λ (r : BlockAnswer). number_of r.outcome) (block_is c row l) ∙ given_number (block_lines (lawful c) c.queue row) tt refl
+    go false l = ap (λ (r : BlockAnswer). number_of r.outcome) (sym (block_18 c row l)) ∙ simp l
 
 -- 0 if every byte finds a place
-pub block_accepts : (c : Card) (row : List ℕ) → lawful c ≡ true → length row ≤ free c.queue → (write_block c row).number ≡ 0
+pub block_accepts : (c : Card) (row : List ℕ) → lawful c ≡ true → length row ≤ free c.queue → number_of (write_block c row).outcome ≡ 0
 block_accepts c row l h = block_number c row ∙ simp (l, le-ltb (free c.queue) (length row) h)
 
 -- and the queue that bytes joined is lawful
@@ -152,22 +150,26 @@ module _ (c : Card) (row : List ℕ) (l : lawful c ≡ true) (places : length c.
       ∙ ap (λ (p : Queue). block_answer (with_queue c p) (given (block_lines (lawful c) q row)) (finding q row)) (f ∙ ap (joined q) (sym (take_finding (free q) row)))
 
   -- and what the code leaves
-  module _ (stored : List ℕ) (n taken : ℕ) (e : stored ≡ paste c.queue.bytes c.queue.fill row taken) where
-    block_stored : taken ≡ finding c.queue row → n ≡ given (block_lines (lawful c) c.queue row)
-        → block_answer (with_queue c (record { bytes = stored; fill = c.queue.fill + taken })) n taken ≡ write_block c row
-    block_stored t g =
+  module _ (stored : List ℕ) (taken : ℕ) (e : stored ≡ paste c.queue.bytes c.queue.fill (take taken row) (length (take taken row))) where
+    block_stored : taken ≡ finding c.queue row → (o : Result ⊤ Refusal) → o ≡ answered (given (block_lines (lawful c) c.queue row)) tt
+        → record { card = with_queue c (record { bytes = stored; fill = c.queue.fill + taken }); taken = taken; outcome = o } ≡ write_block c row
+    block_stored t o g =
         let h : taken ≤ length row = omega (arith, t, min-le_right (free c.queue) (length row)) in
-        ap (λ (bs : List ℕ). block_answer (with_queue c (record { bytes = bs; fill = c.queue.fill + taken })) n taken) e
-        ∙ ap₂ (λ (q : Queue) (m : ℕ). block_answer (with_queue c q) m taken) (stored_joined c.queue places (parts c l).queue row taken h) g
+        let n : length (take taken row) ≡ taken = length-take-le taken row h in
+        let k : take taken (take taken row) ≡ take taken row = take-take taken taken row (omega arith) in
+        let p : stored ≡ paste c.queue.bytes c.queue.fill row taken = e ∙ ap (λ (m : ℕ). paste c.queue.bytes c.queue.fill (take taken row) m) n
+        ∙ ap (λ (bs : List ℕ). (take c.queue.fill c.queue.bytes ++ bs) ++ drop (c.queue.fill + taken) c.queue.bytes) k in
+        ap (λ (bs : List ℕ). record { card = with_queue c (record { bytes = bs; fill = c.queue.fill + taken }); taken = taken; outcome = o }) p
+        ∙ ap₂ (λ (q : Queue) (m : Result ⊤ Refusal). record { card = with_queue c q; taken = taken; outcome = m }) (stored_joined c.queue places (parts c l).queue row taken h) g
         ∙ ap (λ (k : ℕ). block_answer (with_queue c (joined c.queue (take k row))) (given (block_lines (lawful c) c.queue row)) k) t
         ∙ sym block_joined
 
     -- some are left over
-    pub block_3 : free c.queue < length row → n ≡ 3 → taken ≡ free c.queue
-        → block_answer (with_queue c (record { bytes = stored; fill = c.queue.fill + taken })) n taken ≡ write_block c row
-    block_3 h m t = block_stored (t ∙ sym (min-eq_left (le_of_lt h))) (m ∙ simp (l, lt-ltb (free c.queue) (length row) h))
+    pub block_3 : free c.queue < length row → (o : Result ⊤ Refusal) → o ≡ Err Refusal.QueueFull → taken ≡ free c.queue
+        → record { card = with_queue c (record { bytes = stored; fill = c.queue.fill + taken }); taken = taken; outcome = o } ≡ write_block c row
+    block_3 h o m t = block_stored (t ∙ sym (min-eq_left (le_of_lt h))) o (m ∙ simp (l, lt-ltb (free c.queue) (length row) h, queue_full_named))
 
     -- none is
-    pub block_0 : length row ≤ free c.queue → n ≡ 0 → taken ≡ length row
-        → block_answer (with_queue c (record { bytes = stored; fill = c.queue.fill + taken })) n taken ≡ write_block c row
-    block_0 h m t = block_stored (t ∙ sym (min-eq_right h)) (m ∙ simp (l, le-ltb (free c.queue) (length row) h))
+    pub block_0 : length row ≤ free c.queue → (o : Result ⊤ Refusal) → o ≡ Ok tt → taken ≡ length row
+        → record { card = with_queue c (record { bytes = stored; fill = c.queue.fill + taken }); taken = taken; outcome = o } ≡ write_block c row
+    block_0 h o m t = block_stored (t ∙ sym (min-eq_right h)) o (m ∙ simp (l, le-ltb (free c.queue) (length row) h))

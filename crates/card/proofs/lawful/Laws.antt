@@ -1,8 +1,7 @@
 -- The parts of a card in the order in which the code asks them, and what a lawful card tells of each. Assumes nothing.
-use mathlib.Core.Path.{◌≡◌, refl, ap, ◌∙◌}
+use mathlib.Core.Path.{◌≡◌, refl}
 use mathlib.Core.Bool.{Bool, true, false, ◌&&◌}
-use Rattle.wire.proofs.digits.Laws.{and_both, and_true}
-use Rattle.wire.proofs.packets.Laws.{and_false}
+use Rattle.wire.proofs.digits.Laws.{and_both}
 use Rattle.clock.specs.Clocks.{clock_lawful}
 use Rattle.parts.specs.Events.{latch_lawful, control_lawful, event_lawful}
 use Rattle.parts.specs.Interrupts.{interrupts_lawful}
@@ -43,15 +42,6 @@ unfolding rest_lawful
 rest_parts c =
     rw (event_is c.event) (reordered (interrupts_lawful c.interrupts) (control_lawful c.event.control c.event.closed) (latch_lawful c.event.latch) (latch_lawful c.time_latch) (settings_lawful c.settings) (jam_fits c.jam c.settings) (queue_lawful c.queue))
 
--- of a card whose clock is lawful, the other parts decide
-pub clock_lawful_lem : (c : Card) → clock_lawful c.clock ≡ true → lawful c ≡ rest_lawful c
-unfolding lawful
-clock_lawful_lem c e = ap (λ (t : Bool). rest_lawful c && t) e ∙ and_true (rest_lawful c)
-
-pub clock_unlawful : (c : Card) → clock_lawful c.clock ≡ false → lawful c ≡ false
-unfolding lawful
-clock_unlawful c e = ap (λ (t : Bool). rest_lawful c && t) e ∙ and_false (rest_lawful c)
-
 -- of a card whose other parts are lawful, the clock decides
 pub rest_lawful_lem : (c : Card) → rest_lawful c ≡ true → lawful c ≡ clock_lawful c.clock
 unfolding lawful
@@ -60,6 +50,17 @@ rest_lawful_lem c e = simp e
 pub rest_unlawful : (c : Card) → rest_lawful c ≡ false → lawful c ≡ false
 unfolding lawful
 rest_unlawful c e = simp e
+
+-- the code asks the clock first
+pub clock_first : (c : Card) → lawful c ≡ (clock_lawful c.clock && rest_lawful c)
+unfolding lawful
+clock_first c = go (rest_lawful c) (clock_lawful c.clock)
+  where
+    go : (r k : Bool) → (r && k) ≡ (k && r)
+    go true true = refl
+    go true false = refl
+    go false true = refl
+    go false false = refl
 
 -- a lawful card is lawful in each part, and a card lawful in each part is
 pub record Parts (c : Card) : Type 0 where

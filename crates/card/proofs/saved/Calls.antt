@@ -7,67 +7,78 @@ use lib.Dec.{eqb, ltb}
 use lib.ListN.{length, drop}
 use borrow.Author.Tests.{eq-eqb, eqb-false, le-ltb, not-false}
 use Rattle.wire.specs.Digits.{pick, unpacked}
-use Rattle.wire.specs.Numbers.{◌if◌, given}
+use Rattle.wire.specs.Numbers.{◌if◌, given, answered, number_of, granted}
+use Rattle.std.specs.Prelude.{Result, Err, Some, None, ⊤}
+use Rattle.wire.specs.declared.numbers.Refusal.{Refusal}
+use Rattle.wire.proofs.numbers.Names.{given_number, number_refusal, unlawful_named, not_saved_named}
+use native.Mathlib.Omega.{arith}
 use Rattle.wire.proofs.numbers.Laws.{given_zero, quiet_first}
 use Rattle.card.specs.declared.card.Card.{Card}
-use Rattle.card.specs.declared.card.Answer.{Answer}
+use Rattle.wire.specs.declared.numbers.Answer.{Answer}
 use Rattle.parts.specs.declared.settings.Settings.{Settings}
 use Rattle.parts.specs.Settings.{jam_fits}
-use Rattle.parts.specs.declared.saved.SettingsRead.{SettingsRead}
 use Rattle.card.specs.Lawful.{lawful}
-use Rattle.card.specs.Cards.{answer, granted, with_settings}
+use Rattle.card.specs.Cards.{answer, with_settings}
 use Rattle.card.proofs.lawful.Laws.{parts}
 use Rattle.parts.specs.Saved.{meaningful, settings_in, saved_form, saved_refusal, put_refusal, row_put, read_saved}
 use Rattle.parts.proofs.saved.Calls.{put_known, loaded, refusal_given}
-use Rattle.card.specs.Saved.{save_refusal, row_saved, load, settings_kept}
+use Rattle.card.specs.Saved.{save_refusal, row_saved, save_lines, load_lines, load, settings_kept}
 
 -- SAVING
 
 module _ (card : Card) (row : List ℕ) where
-  pub save_18 : lawful card ≡ false → (18 ≡ save_refusal card (length row)) × (row ≡ row_saved card row)
+  pub save_18 : lawful card ≡ false → Err Refusal.Unlawful ≡ answered {A = ⊤} (save_refusal card (length row)) tt
+  unfolding save_refusal
+  save_18 e = simp (e, unlawful_named)
+
+  pub row_18 : lawful card ≡ false → row ≡ row_saved card row
   unfolding save_refusal row_saved
-  save_18 e = (simp e, simp e)
+  row_18 e = simp e
 
   -- of a lawful card, its settings are put
-  pub save_puts : lawful card ≡ true → (n : ℕ) (after : List ℕ) → n ≡ put_refusal card.settings (length row) → after ≡ row_put card.settings row
-      → (n ≡ save_refusal card (length row)) × (after ≡ row_saved card row)
+  pub save_puts : lawful card ≡ true → (r : Result ⊤ Refusal) (after : List ℕ) → r ≡ answered (put_refusal card.settings (length row)) tt → after ≡ row_put card.settings row
+      → (r ≡ answered (save_refusal card (length row)) tt) × (after ≡ row_saved card row)
   unfolding save_refusal row_saved
-  save_puts e n after h a =
+  save_puts e r after h a =
       let k = put_known card.settings row (parts card e).settings in
-      (h ∙ k.0 ∙ simp e, a ∙ k.1 ∙ simp e)
+      (h ∙ ap (λ (n : ℕ). answered n tt) (k.0 ∙ simp e), a ∙ k.1 ∙ simp e)
+
+-- the number that saving answers is that of its table
+pub save_told : (card : Card) (room : ℕ) → number_of (answered {A = ⊤} (save_refusal card room) tt) ≡ save_refusal card room
+unfolding save_refusal
+save_told card room = given_number (save_lines card room) tt refl
 
 -- LOADING
 
--- the answer for what bytes are loaded as
-abbrev pub answer_to : Card → SettingsRead → Answer
-answer_to card (SettingsRead.Is s) = settings_kept card s
-answer_to card SettingsRead.Refused = record { card = card; number = 19 }
-
 module _ (card : Card) (bytes : List ℕ) where
-  pub load_18 : lawful card ≡ false → record { card = card; number = 18 } ≡ load card bytes
-  unfolding load granted
-  load_18 e = simp e
+  pub load_18 : lawful card ≡ false → record { after = card; outcome = Err Refusal.Unlawful } ≡ load card bytes
+  unfolding load
+  load_18 e = simp (e, unlawful_named)
 
-  -- by whether the bytes are refused
-  load_by : lawful card ≡ true → (t : Bool) → eqb (length bytes) 5 && meaningful (unpacked 2 8 bytes) ≡ t
-      → answer_to card (pick t (SettingsRead.Is (settings_in (unpacked 2 8 bytes))) SettingsRead.Refused) ≡ load card bytes
-  unfolding load granted
-  load_by e true h = simp (e, h)
-  load_by e false h = simp (e, h)
+  -- bytes that are loaded as nothing are refused, and settings are kept
+  pub load_none : lawful card ≡ true → read_saved bytes ≡ None → record { after = card; outcome = Err Refusal.NotSaved } ≡ load card bytes
+  unfolding load
+  load_none l = go (eqb (length bytes) 5 && meaningful (unpacked 2 8 bytes)) refl
+    where
+      go : (t : Bool) → eqb (length bytes) 5 && meaningful (unpacked 2 8 bytes) ≡ t → read_saved bytes ≡ None → record { after = card; outcome = Err Refusal.NotSaved } ≡ load card bytes
+      go true h e = absurd (let q = loaded bytes true h in cc)
+      go false h e = simp (l, h, not_saved_named)
 
-  pub load_read : lawful card ≡ true → (r : SettingsRead) → r ≡ read_saved bytes → answer_to card r ≡ load card bytes
-  load_read e r q =
-      let t : Bool = eqb (length bytes) 5 && meaningful (unpacked 2 8 bytes) in
-      ap (answer_to card) (q ∙ loaded bytes t refl) ∙ load_by e t refl
+  pub load_some : lawful card ≡ true → (s : Settings) → read_saved bytes ≡ Some s → settings_kept card s ≡ load card bytes
+  unfolding load
+  load_some l s = go (eqb (length bytes) 5 && meaningful (unpacked 2 8 bytes)) refl
+    where
+      go : (t : Bool) → eqb (length bytes) 5 && meaningful (unpacked 2 8 bytes) ≡ t → read_saved bytes ≡ Some s → settings_kept card s ≡ load card bytes
+      go true h e = let q = loaded bytes true h in let i : settings_in (unpacked 2 8 bytes) ≡ s = cc in simp (l, h, i)
+      go false h e = absurd (let q = loaded bytes false h in cc)
 
 -- FOR THE LAWS ABOVE
 
 -- by whether the jam may stand beside settings
 pub kept_by : (card : Card) (s : Settings) → settings_kept card s ≡ pick (jam_fits card.jam s) (answer (with_settings card s) 0) (answer card 25)
-unfolding granted
 kept_by card s = go (jam_fits card.jam s)
   where
-    go : (t : Bool) → granted (25 if not t ∷ []) card (with_settings card s) ≡ pick t (answer (with_settings card s) 0) (answer card 25)
+    go : (t : Bool) → granted (25 if not t ∷ []) card (with_settings card s) tt ≡ pick t (answer (with_settings card s) 0) (answer card 25)
     go true = refl
     go false = refl
 
@@ -93,7 +104,7 @@ module _ (card : Card) (bytes : List ℕ) (l : lawful card ≡ true) where
 
   -- bytes that are a saved form: their settings are the card's, or 25
   pub loads : saved_refusal bytes ≡ 0 → load card bytes ≡ pick (jam_fits card.jam (settings_in (unpacked 2 8 bytes))) (answer (with_settings card (settings_in (unpacked 2 8 bytes))) 0) (answer card 25)
-  unfolding load granted
+  unfolding load
   loads e = go formed refl (sym (refusal_given bytes) ∙ e) ∙ kept_by card (settings_in (unpacked 2 8 bytes))
     where
       go : (t : Bool) → formed ≡ t → given (19 if not t ∷ []) ≡ 0 → load card bytes ≡ settings_kept card (settings_in (unpacked 2 8 bytes))
@@ -101,21 +112,21 @@ module _ (card : Card) (bytes : List ℕ) (l : lawful card ≡ true) where
       go false h z = absurd (eqb-false 19 0 refl z)
 
   -- and bytes that are loaded are one
-  pub load_refusal : (load card bytes).number ≡ 0 → saved_refusal bytes ≡ 0
-  unfolding load granted
-  load_refusal e = refusal_given bytes ∙ go formed (jam_fits card.jam (settings_in (unpacked 2 8 bytes))) (rw l at e)
+  pub load_refusal : number_of (load card bytes).outcome ≡ 0 → saved_refusal bytes ≡ 0
+  unfolding load
+  load_refusal e = refusal_given bytes ∙ go formed (jam_fits card.jam (settings_in (unpacked 2 8 bytes))) (rw l at (sym (given_number (load_lines card bytes) tt refl) ∙ e))
     where
       go : (t j : Bool) → given (19 if not t ∷ 25 if not j ∷ []) ≡ 0 → given (19 if not t ∷ []) ≡ 0
       go true j z = refl
       go false j z = z
 
   -- and then their settings are the card's
-  pub load_settings_lem : (load card bytes).number ≡ 0 → (load card bytes).card.settings ≡ settings_in (unpacked 2 8 bytes)
+  pub load_settings_lem : number_of (load card bytes).outcome ≡ 0 → (load card bytes).after.settings ≡ settings_in (unpacked 2 8 bytes)
   load_settings_lem e =
       let q = loads (load_refusal e) in
-      ap (λ (a : Answer). a.card.settings) q ∙ go (jam_fits card.jam (settings_in (unpacked 2 8 bytes))) (sym (ap (λ (a : Answer). a.number) q) ∙ e)
+      ap (λ (a : Answer Card ⊤). a.after.settings) q ∙ go (jam_fits card.jam (settings_in (unpacked 2 8 bytes))) (sym (ap (λ (a : Answer Card ⊤). number_of a.outcome) q) ∙ e)
     where
-      go : (j : Bool) → (pick j (answer (with_settings card (settings_in (unpacked 2 8 bytes))) 0) (answer card 25)).number ≡ 0
-          → (pick j (answer (with_settings card (settings_in (unpacked 2 8 bytes))) 0) (answer card 25)).card.settings ≡ settings_in (unpacked 2 8 bytes)
+      go : (j : Bool) → number_of (pick j (answer (with_settings card (settings_in (unpacked 2 8 bytes))) 0) (answer card 25)).outcome ≡ 0
+          → (pick j (answer (with_settings card (settings_in (unpacked 2 8 bytes))) 0) (answer card 25)).after.settings ≡ settings_in (unpacked 2 8 bytes)
       go true z = refl
-      go false z = absurd (eqb-false 25 0 refl z)
+      go false z = absurd (eqb-false 25 0 refl (sym (number_refusal 25 (omega arith) (omega arith)) ∙ z))

@@ -8,58 +8,74 @@ use native.Mathlib.Omega.{arith}
 use lib.Dec.{eqb}
 use lib.ListN.{length}
 use borrow.Author.Tests.{eqb-true, eqb-false, eq-eqb}
-use Rattle.wire.specs.Numbers.{◌if◌, given}
+use Rattle.std.specs.Prelude.{Ok, Err}
+use Rattle.wire.specs.Numbers.{◌if◌, given, refusal}
+use Rattle.wire.specs.declared.numbers.Answer.{Answer}
+use Rattle.wire.specs.declared.numbers.Refusal.{Refusal}
+use Rattle.wire.proofs.numbers.Names.{unlawful_named}
+use Rattle.clock.specs.declared.clock.Clock.{Clock}
 use Rattle.clock.specs.declared.waiting.Passed.{Passed}
 use Rattle.clock.specs.Clocks.{clock_lawful}
 use Rattle.clock.specs.declared.waiting.Fell.{Fell}
-use Rattle.clock.specs.Waiting.{listed, passed, row_listed, moved_on, source_listed, fell, clock_later, wait_lines, pass, row_passed}
+use Rattle.clock.specs.Waiting.{listed, passed, row_listed, moved_on, source_listed, fell, clock_later, wait_lines, listing, pass, row_passed}
 use Rattle.clock.proofs.waiting.Heard.{listed_both, none_listed}
 use Rattle.clock.proofs.waiting.Resume.{clock_add, clock_stays}
-use Rattle.clock.proofs.waiting.Answer.{Accepted, accepts, pass_done, pass_not, row_done, row_not}
-use Rattle.parts.specs.declared.interrupts.Interrupts.{Interrupts}
+use Rattle.clock.proofs.waiting.Answer.{Accepted, accepts, pass_done, pass_not, row_done, row_not, listing_gives}
 use Rattle.parts.proofs.interrupts.Laws.{none_raised}
 use Rattle.parts.proofs.interrupts.Raised.{sources_twice}
 use Rattle.card.specs.declared.card.Card.{Card}
-use Rattle.card.specs.declared.waiting.WaitedCard.{WaitedCard}
 use Rattle.parts.specs.Interrupts.{with_pending}
 use Rattle.card.specs.Cards.{with_clock, with_interrupts}
 use Rattle.card.specs.Lawful.{rest_lawful, lawful}
-use Rattle.card.specs.Waiting.{pending_after, card_after, wait_refusal, waited, wait, row_waited}
+use Rattle.card.specs.Waiting.{pending_after, card_after, card_lines, wait_refusal, waited, wait, row_waited}
 use Rattle.card.proofs.lawful.Laws.{rest_lawful_lem, rest_unlawful, parts}
 
-pub unlawful : (c : Card) (n : ℕ) (row : List ℕ) → rest_lawful c ≡ false
-    → (◌≡◌ {A = WaitedCard} (record { card = c; waited = waited 18 0 0 }) (wait c n (length row))) × (row ≡ row_waited c n row)
-unfolding wait row_waited wait_refusal
-unlawful c n row e = let l = rest_unlawful c e in (simp l, simp l)
+module _ (c : Card) (n : ℕ) (row : List ℕ) where
+  pub unlawful : rest_lawful c ≡ false → (record { after = c; outcome = Err Refusal.Unlawful } ≡ wait c n (length row)) × (row ≡ row_waited c n row)
+  unfolding wait row_waited wait_refusal
+  unlawful e = let l = rest_unlawful c e in (simp (l, unlawful_named), simp l)
 
--- the card with what its clock left, and what it answers
-abbrev waited_by : Card → Passed → WaitedCard
-waited_by c p =
-    record {
-      card = with_interrupts (with_clock c p.clock) (with_pending c.interrupts (pending_after p.fell c.interrupts.pending));
-      waited = record { number = p.number; passed = p.passed; written = p.written };
-    }
+  module _ (e : rest_lawful c ≡ true) where
+    abbrev table : ℕ
+    table = given (18 if not (clock_lawful c.clock) ∷ wait_lines c.clock n (length row))
 
-module _ (c : Card) (n : ℕ) (row : List ℕ) (e : rest_lawful c ≡ true) where
-  abbrev refusal : ℕ
-  refusal = given (18 if not (clock_lawful c.clock) ∷ wait_lines c.clock n (length row))
+    same : given (card_lines c n (length row)) ≡ table
+    same = ap (λ (t : Bool). given (18 if not t ∷ wait_lines c.clock n (length row))) (rest_lawful_lem c e)
 
-  same : wait_refusal c n (length row) ≡ refusal
-  unfolding wait_refusal
-  same = ap (λ (t : Bool). given (18 if not t ∷ wait_lines c.clock n (length row))) (rest_lawful_lem c e)
+    -- a clock that passes the window: the card with it, and with the pending bits of the sources that it tells
+    pub passes : (a : Answer Clock Passed) (after : List ℕ) (p : Passed) → a ≡ pass c.clock n (length row) → after ≡ row_passed c.clock n row → a.outcome ≡ Ok p
+        → (record { after = with_interrupts (with_clock c a.after) (with_pending c.interrupts (pending_after p.fell c.interrupts.pending)); outcome = Ok (record { passed = p.passed; written = p.written }) } ≡ wait c n (length row))
+        × (after ≡ row_waited c n row)
+    unfolding wait row_waited wait_refusal card_after
+    passes a after p ea er eo = go (eqb table 0) refl
+      where
+        go : (t : Bool) → eqb table 0 ≡ t
+            → (record { after = with_interrupts (with_clock c a.after) (with_pending c.interrupts (pending_after p.fell c.interrupts.pending)); outcome = Ok (record { passed = p.passed; written = p.written }) } ≡ wait c n (length row))
+            × (after ≡ row_waited c n row)
+        go true z =
+            let g : table ≡ 0 = eqb-true table 0 z in
+            let d = ea ∙ pass_done c.clock n (length row) g in
+            let q : p ≡ listing c.clock n (length row) = cc in
+            (rw (d, q, listing_gives c.clock n (length row)) (simp (same, z)), er ∙ row_done c.clock n row g ∙ simp (same, z))
+        go false z =
+            let d = ea ∙ pass_not c.clock n (length row) (eqb-false table 0 z) in
+            absurd (cc)
 
-  by_number : (t : Bool) → eqb refusal 0 ≡ t → (waited_by c (pass c.clock n (length row)) ≡ wait c n (length row)) × (row_passed c.clock n row ≡ row_waited c n row)
-  unfolding wait row_waited card_after
-  by_number true z =
-      let g : refusal ≡ 0 = eqb-true refusal 0 z in
-      (ap (waited_by c) (pass_done c.clock n (length row) g) ∙ simp (same, z), row_done c.clock n row g ∙ simp (same, z))
-  by_number false z =
-      let g : refusal ≡ 0 → ⊥ = eqb-false refusal 0 z in
-      (ap (waited_by c) (pass_not c.clock n (length row) g) ∙ ap (λ (i : Interrupts). record { card = with_interrupts c i; waited = waited refusal 0 0 }) (none_raised c.interrupts) ∙ simp (same, z), row_not c.clock n row g ∙ simp (same, z))
-
-  pub passes : (p : Passed) (after : List ℕ) → p ≡ pass c.clock n (length row) → after ≡ row_passed c.clock n row
-      → (waited_by c p ≡ wait c n (length row)) × (after ≡ row_waited c n row)
-  passes p after h k = let b = by_number (eqb refusal 0) refl in (ap (waited_by c) h ∙ b.0, k ∙ b.1)
+    -- and one that refuses: the card as it was
+    pub stops : (a : Answer Clock Passed) (after : List ℕ) (r : Refusal) → a ≡ pass c.clock n (length row) → after ≡ row_passed c.clock n row → a.outcome ≡ Err r
+        → (record { after = c; outcome = Err r } ≡ wait c n (length row)) × (after ≡ row_waited c n row)
+    unfolding wait row_waited wait_refusal
+    stops a after r ea er eo = go (eqb table 0) refl
+      where
+        go : (t : Bool) → eqb table 0 ≡ t → (record { after = c; outcome = Err r } ≡ wait c n (length row)) × (after ≡ row_waited c n row)
+        go true z =
+            let d = ea ∙ pass_done c.clock n (length row) (eqb-true table 0 z) in
+            absurd (cc)
+        go false z =
+            let g : table ≡ 0 → ⊥ = eqb-false table 0 z in
+            let d = ea ∙ pass_not c.clock n (length row) g in
+            let q : r ≡ refusal table = cc in
+            (rw q (simp (same, z)), er ∙ row_not c.clock n row g ∙ simp (same, z))
 
 -- ---- for the laws above: a wait that is not refused
 
@@ -69,8 +85,8 @@ goes c n room l a = rw l (accepts c.clock n room a)
 
 module _ (c : Card) (n room : ℕ) (e : wait_refusal c n room ≡ 0) where
   pub wait_is : wait c n room
-      ≡ record { card = card_after c (passed c.clock n room) (fell (listed c.clock n room)); waited = waited 0 (passed c.clock n room) (length (listed c.clock n room)) }
-  unfolding wait
+      ≡ record { after = card_after c (passed c.clock n room) (fell (listed c.clock n room)); outcome = Ok (waited (passed c.clock n room) (length (listed c.clock n room))) }
+  unfolding wait wait_refusal
   wait_is = simp (eq-eqb (wait_refusal c n room) 0 e)
 
 pub row_is : (c : Card) (n : ℕ) (row : List ℕ) → wait_refusal c n (length row) ≡ 0 → row_waited c n row ≡ row_listed c.clock n row

@@ -4,9 +4,9 @@ use Prim.Native.Nat.{ℕ, ◌+◌, ◌-◌, ◌*◌, ◌/◌, ◌%◌, ◌≤◌
 use mathlib.Core.Path.{◌≡◌, refl, sym, ◌∙◌, ap}
 use mathlib.Core.Bool.{Bool, true, false, ◌&&◌}
 use mathlib.Core.Logic.{⊎_elim, ◌↔◌}
-use native.Mathlib.Nat.{mod-lt, mod-eq_of_lt, mod-add-mod, mod-eq-sub-mod, mod-mod_of_dvd, dvd_of_mod-eq-zero, add_assoc, mul-le-mul}
+use native.Mathlib.Nat.{mod-lt, mod-eq_of_lt, mod-add-mod, mod-eq-sub-mod, mod-mod_of_dvd, dvd_of_mod-eq-zero, add_assoc}
 use native.Mathlib.Omega.{arith}
-use borrow.Author.Tests.{eq-eqb, ne_eqb, eqb-true, leb-true, ltb-true}
+use borrow.Author.Tests.{eq-eqb, ne_eqb, eqb-true, ltb-true}
 use lib.Dec.{leb, ltb, eqb}
 use Rattle.wire.specs.Time.{ticks_of_day}
 use Rattle.wire.specs.declared.time.Milliseconds.{Milliseconds}
@@ -14,6 +14,7 @@ use Rattle.wire.proofs.digits.Laws.{lt_or_le, and_both}
 use Rattle.clock.specs.declared.clock.Strobe.{Strobe}
 use Rattle.clock.specs.declared.clock.Periodic.{Periodic}
 use Rattle.clock.specs.declared.time.Time.{Time}
+use Rattle.clock.specs.declared.falling.Source.{Source}
 use Rattle.clock.specs.Time.{later}
 use Rattle.clock.specs.Falling.{second_falls, strobe_falls, periodic_falls, strobe_lawful, periodic_lawful}
 use Rattle.clock.specs.Sources.{Gap, NextFall, Rhythm, second_on, strobe_on}
@@ -73,15 +74,15 @@ module _ (test : ℕ → Bool) (x p r : ℕ) (on : (k : ℕ) → test k ≡ eqb 
     none = λ k l m. on k ∙ ne_eqb _ _ (λ e. g.none (k - a) (omega arith) (omega arith) (ap (λ (z : ℕ). z % p) (omega arith) ∙ e));
   }
 
-  pub rhythm : (d : ℕ) → r < p → p ≤ ticks_of_day → Gap x p r d → Rhythm test 0 (record { next = d; period = p })
-  rhythm d h l g = record {
+  pub rhythm : (s : Source) → r < p → p ≤ ticks_of_day → Gap x p r s.next → s.period ≡ p → Rhythm test 0 s
+  rhythm s h l g e = record {
     next = record {
       above = g.above;
-      hit = λ m. on d ∙ eq-eqb _ _ g.hit;
+      hit = λ m. on s.next ∙ eq-eqb _ _ g.hit;
       none = λ k m n. on k ∙ ne_eqb _ _ (g.none k m n);
     };
-    again = λ k e. falls_next k p (gap_again (x + k) p r h (eqb-true _ _ (sym (on k) ∙ e)));
-    small = l;
+    again = λ k f. rw e (falls_next k p (gap_again (x + k) p r h (eqb-true _ _ (sym (on k) ∙ f))));
+    small = omega arith;
   }
 
 -- what never falls
@@ -102,26 +103,26 @@ module _ (t : Time) (h : Proper t) where
   in_second : (k : ℕ) → (later k t).tick.ticks % 10000000 ≡ (t.tick.ticks + k) % 10000000
   in_second k = ap (λ (x : ℕ). x % 10000000) (later_tick k t h) ∙ second_of_day (t.tick.ticks + k)
 
-  pub second_rhythm : (d : ℕ) → Gap t.tick.ticks 10000000 0 d → Rhythm (second_on t) 0 (record { next = d; period = 10000000 })
+  pub second_rhythm : (s : Source) → Gap t.tick.ticks 10000000 0 s.next → s.period ≡ 10000000 → Rhythm (second_on t) 0 s
   unfolding second_on second_falls
-  second_rhythm d g =
-      rhythm _ t.tick.ticks 10000000 0 (λ k. ap (λ (x : ℕ). eqb x 0) (in_second k)) d (omega arith) (omega arith) g
+  second_rhythm s g q =
+      rhythm _ t.tick.ticks 10000000 0 (λ k. ap (λ (x : ℕ). eqb x 0) (in_second k)) s (omega arith) (omega arith) g q
 
   pub strobe_off : (s : Strobe) → s ≡ Strobe.Off → Rhythm (strobe_on s t) 0 (record { next = 864000000001; period = 864000000000 })
   unfolding strobe_on strobe_falls
   strobe_off s e = rw e (never _ (λ k. refl))
 
-  pub strobe_daily : (s : Strobe) (ms : Milliseconds) (d : ℕ) → s ≡ Strobe.Daily ms → ms.ms < 86400000 → Gap t.tick.ticks 864000000000 (ms.ms * 10000) d
-      → Rhythm (strobe_on s t) 0 (record { next = d; period = 864000000000 })
+  pub strobe_daily : (s : Strobe) (ms : Milliseconds) (d : Source) → s ≡ Strobe.Daily ms → ms.ms < 86400000 → Gap t.tick.ticks 864000000000 (ms.ms * 10000) d.next
+      → d.period ≡ 864000000000 → Rhythm (strobe_on s t) 0 d
   unfolding strobe_on strobe_falls
-  strobe_daily s ms d e l g =
-      rw e (rhythm _ t.tick.ticks 864000000000 (ms.ms * 10000) (λ k. ap (λ (z : ℕ). eqb z (ms.ms * 10000)) (later_tick k t h)) d (omega arith) (omega arith) g)
+  strobe_daily s ms d e l g q =
+      rw e (rhythm _ t.tick.ticks 864000000000 (ms.ms * 10000) (λ k. ap (λ (z : ℕ). eqb z (ms.ms * 10000)) (later_tick k t h)) d (omega arith) (omega arith) g q)
 
-  pub strobe_each : (s : Strobe) (ms : Milliseconds) (d : ℕ) → s ≡ Strobe.EachSecond ms → ms.ms < 1000 → Gap t.tick.ticks 10000000 (ms.ms * 10000) d
-      → Rhythm (strobe_on s t) 0 (record { next = d; period = 10000000 })
+  pub strobe_each : (s : Strobe) (ms : Milliseconds) (d : Source) → s ≡ Strobe.EachSecond ms → ms.ms < 1000 → Gap t.tick.ticks 10000000 (ms.ms * 10000) d.next
+      → d.period ≡ 10000000 → Rhythm (strobe_on s t) 0 d
   unfolding strobe_on strobe_falls
-  strobe_each s ms d e l g =
-      rw e (rhythm _ t.tick.ticks 10000000 (ms.ms * 10000) (λ k. ap (λ (x : ℕ). eqb x (ms.ms * 10000)) (in_second k)) d (omega arith) (omega arith) g)
+  strobe_each s ms d e l g q =
+      rw e (rhythm _ t.tick.ticks 10000000 (ms.ms * 10000) (λ k. ap (λ (x : ℕ). eqb x (ms.ms * 10000)) (in_second k)) d (omega arith) (omega arith) g q)
 
 pub daily_range : (s : Strobe) (ms : Milliseconds) → s ≡ Strobe.Daily ms → strobe_lawful s ≡ true → ms.ms < 86400000
 unfolding strobe_lawful
@@ -131,28 +132,27 @@ pub each_range : (s : Strobe) (ms : Milliseconds) → s ≡ Strobe.EachSecond ms
 unfolding strobe_lawful
 each_range s ms e l = ltb-true _ _ (rw e at l)
 
--- what the ranges of dividers of 16 bits and of the count give
+-- what the ranges of dividers and count give
 pub record Divides (n1 n2 count : ℕ) : Type 0 where
   pub low : 0 < n1 * n2
-  pub high : n1 * n2 ≤ 4294836225
   pub below : count < n1 * n2
 
-pub divides : (p : Periodic) (n1 n2 count : ℕ) → p ≡ Periodic.Every n1 n2 count → periodic_lawful p ≡ true → n1 ≤ 65535 → n2 ≤ 65535 → Divides n1 n2 count
+pub divides : (p : Periodic) (n1 n2 count : ℕ) → p ≡ Periodic.Every n1 n2 count → periodic_lawful p ≡ true → Divides n1 n2 count
 unfolding periodic_lawful
-divides p n1 n2 count e l h k =
+divides p n1 n2 count e l =
     let a = and_both (leb 2 n1) (leb 2 n2 && ltb count (n1 * n2)) (rw e at l) in
     let b = and_both (leb 2 n2) (ltb count (n1 * n2)) a.1 in
-    let f : 2 * 2 ≤ n1 * n2 = mul-le-mul (leb-true 2 n1 a.0) (leb-true 2 n2 b.0) in
-    record { low = omega (arith, f); high = mul-le-mul h k; below = ltb-true _ _ b.1 }
+    let f : count < n1 * n2 = ltb-true _ _ b.1 in
+    record { low = omega arith; below = f }
 
 pub periodic_off : (p : Periodic) → p ≡ Periodic.Off → Rhythm (periodic_falls p) 0 (record { next = 864000000001; period = 864000000000 })
 unfolding periodic_falls
 periodic_off p e = rw e (never _ (λ k. refl))
 
-pub periodic_every : (p : Periodic) (n1 n2 count d : ℕ) → p ≡ Periodic.Every n1 n2 count → 0 < n1 * n2 → n1 * n2 ≤ ticks_of_day → Gap count (n1 * n2) 0 d
-    → Rhythm (periodic_falls p) 0 (record { next = d; period = n1 * n2 })
+pub periodic_every : (p : Periodic) (n1 n2 count : ℕ) (d : Source) → p ≡ Periodic.Every n1 n2 count → 0 < n1 * n2 → n1 * n2 ≤ ticks_of_day → Gap count (n1 * n2) 0 d.next
+    → d.period ≡ n1 * n2 → Rhythm (periodic_falls p) 0 d
 unfolding periodic_falls
-periodic_every p n1 n2 count d e h l g = rw e (rhythm _ count (n1 * n2) 0 (λ k. refl) d h l g)
+periodic_every p n1 n2 count d e h l g q = rw e (rhythm _ count (n1 * n2) 0 (λ k. refl) d h l g q)
 
 -- THE STROBE FALLS ON THE FIRST TICK OF ITS MILLISECOND
 

@@ -5,27 +5,17 @@ use mathlib.Core.Bool.{true, ◌&&◌}
 use mathlib.Core.Logic.{◌↔◌}
 use lib.Dec.{leb}
 use borrow.Author.Tests.{le-leb, leb-true}
-use Rattle.wire.proofs.digits.Laws.{and_true, and_left, and_right, and_both}
-use Rattle.clock.specs.declared.setting.StrobeAt.{StrobeAt}
+use Rattle.wire.proofs.digits.Laws.{and_true, and_both}
 use Rattle.clock.specs.declared.setting.Dividers.{Dividers}
 use Rattle.clock.specs.Time.{days_in}
-use Rattle.clock.specs.Setting.{time_of_day, date_fits, strobe_fits, dividers_fit}
+use Rattle.clock.specs.Setting.{time_of_day, date_fits, dividers_fit}
 
 -- of a year and a time of day within their ranges, the day decides
 pub day_fits : (year day hour minute second : ℕ) → 1 ≤ year → year ≤ 9999 → time_of_day hour minute second ≡ true → date_fits year day hour minute second ≡ (leb 1 day && leb day (days_in year))
 unfolding date_fits
 day_fits year day hour minute second a b t = simp (le-leb 1 year a, le-leb year 9999 b, t, and_true)
 
--- what a strobe that fits is within
-pub daily_within : (at : StrobeAt) (hour minute second ms : ℕ) → strobe_fits at ≡ true → at ≡ StrobeAt.Daily hour minute second ms → (hour ≤ 23) × ((minute ≤ 59) × ((second ≤ 59) × (ms ≤ 999)))
-unfolding strobe_fits
-daily_within at hour minute second ms h e =
-    let g : (time_of_day hour minute second && leb ms 999) ≡ true = ap strobe_fits (sym e) ∙ h in
-    let t = and_left (time_of_day hour minute second) (leb ms 999) g in
-    let u = and_right (leb hour 23) (leb minute 59 && leb second 59) t in
-    (leb-true hour 23 (and_left (leb hour 23) (leb minute 59 && leb second 59) t), (leb-true minute 59 (and_left (leb minute 59) (leb second 59) u), (leb-true second 59 (and_right (leb minute 59) (leb second 59) u), leb-true ms 999 (and_right (time_of_day hour minute second) (leb ms 999) g))))
-
--- and dividers that fit: exactly those of which each is 2 to 65,535
+-- dividers fit exactly if each is 2 to 65,535
 pub pair_fits : (n1 n2 : ℕ) → dividers_fit (Dividers.By n1 n2) ≡ true ↔ ((2 ≤ n1) × ((n1 ≤ 65535) × ((2 ≤ n2) × (n2 ≤ 65535))))
 unfolding dividers_fit
 pair_fits n1 n2 = (within, λ h. simp (le-leb 2 n1 h.0, le-leb n1 65535 h.1.0, le-leb 2 n2 h.1.1.0, le-leb n2 65535 h.1.1.1))
@@ -37,5 +27,6 @@ pair_fits n1 n2 = (within, λ h. simp (le-leb 2 n1 h.0, le-leb n1 65535 h.1.0, l
         let d = and_both (leb 2 n2) (leb n2 65535) b.1 in
         (leb-true 2 n1 a.0, (leb-true n1 65535 b.0, (leb-true 2 n2 d.0, leb-true n2 65535 d.1)))
 
+-- so dividers that fit are kept in 16 bits each
 pub dividers_within : (d : Dividers) (n1 n2 : ℕ) → dividers_fit d ≡ true → d ≡ Dividers.By n1 n2 → (n1 ≤ 65535) × (n2 ≤ 65535)
 dividers_within d n1 n2 h e = let w = (pair_fits n1 n2).0 (ap dividers_fit (sym e) ∙ h) in (w.1.0, w.1.1.1)

@@ -4,7 +4,7 @@ use Prim.Native.Nat.{ℕ, zero, suc, ◌+◌, ◌-◌, ◌*◌, ◌/◌, ◌%◌
 use mathlib.Core.Path.{◌≡◌, refl, sym, ◌∙◌, ap}
 use mathlib.Core.Bool.{true}
 use mathlib.Core.Logic.{⊎_elim}
-use native.Mathlib.Nat.{add-zero, add-suc, mod-lt, mod_self, mod-eq_of_lt, div-add-mod', div_self, div-eq_of_lt, mul-add-div_right, mul-add-mod_self_right}
+use native.Mathlib.Nat.{add-zero, add-suc, mod-lt, mod_self, mod-eq_of_lt, div-div-eq-div-mul, div-add-mod', div_self, div-eq_of_lt, mul-add-div_right, mul-add-mod_self_right}
 use native.Mathlib.Omega.{arith}
 use borrow.Author.Tests.{eq-eqb, ne_eqb}
 use lib.Dec.{eqb, lit<, lit≤}
@@ -101,6 +101,11 @@ from_1 (suc n) =
 -- the closed form
 pub before_is : (year : ℕ) → days_before year ≡ 365 * (year - 1) + (year - 1) / 4 - (year - 1) / 100 + (year - 1) / 400
 before_is year = omega (arith, from_1 (year - 1))
+
+-- and with a fourth of the centuries for the years by 400
+pub before_by_centuries : (years year : ℕ) → years ≡ year - 1 → 365 * years + years / 4 - years / 100 + years / 100 / 4 ≡ days_before year
+before_by_centuries years year e =
+    rw (div-div-eq-div-mul years 100 4, e) (sym (before_is year))
 
 -- ---- on the card's own clock
 

@@ -1,24 +1,26 @@
 -- What a wait answers: the refusals 18, 15, 14, 16 in that order, and else what it lists and the clock that it leaves. Assumes nothing.
 use Prim.Native.Nat.{ℕ, ◌≤◌, ◌<◌}
-use mathlib.Core.Path.{◌≡◌, refl, ◌∙◌, ap}
+use mathlib.Core.Path.{◌≡◌, refl}
 use mathlib.Core.Bool.{Bool, true, false, not}
-use mathlib.Core.List.{List, [], ◌∷◌}
+use mathlib.Core.List.{List, ◌∷◌}
 use native.Mathlib.Nat.{le_trans}
 use native.Mathlib.Omega.{arith}
 use borrow.Author.Tests.{eq-eqb, ne_eqb, le-ltb, ltb-false, eqb-false}
 use lib.Dec.{ltb, eqb}
 use lib.ListN.{length}
-use Rattle.wire.specs.Numbers.{◌if◌, given}
+use Rattle.std.specs.Prelude.{Ok, Err}
+use Rattle.wire.specs.declared.numbers.Refusal.{Refusal}
+use Rattle.wire.specs.declared.numbers.Answer.{Answer}
+use Rattle.wire.specs.Digits.{pick}
+use Rattle.wire.specs.Numbers.{◌if◌, given, refusal, number_of, given_or}
 use Rattle.wire.specs.Time.{ticks_of_day}
-use Rattle.wire.proofs.digits.Laws.{picked, zero_or}
 use Rattle.wire.proofs.numbers.Laws.{given_zero, quiet_first}
+use Rattle.wire.proofs.numbers.Names.{given_number}
 use Rattle.clock.specs.declared.clock.Clock.{Clock}
-use Rattle.clock.specs.declared.waiting.Listed.{Listed}
 use Rattle.clock.specs.declared.waiting.Passed.{Passed}
 use Rattle.clock.specs.Time.{later}
 use Rattle.clock.specs.Clocks.{clock_lawful}
-use Rattle.clock.specs.Waiting.{listed, passed, row_listed, source_listed, fell, clock_later, wait_lines, pass_refusal, pass, row_passed}
-use Rattle.clock.specs.Sources.{listing}
+use Rattle.clock.specs.Waiting.{fell, listed, passed, row_listed, clock_later, wait_lines, pass_refusal, listing, nothing, pass, row_passed}
 use Rattle.clock.proofs.waiting.Laws.{passes}
 
 -- what holds of a wait that is not refused
@@ -54,22 +56,24 @@ may_list c n room e =
     let a = accepted c n room k.1 in
     (k.0, a.ticks, a.places)
 
-pub may_move : (c : Clock) (n room : ℕ) (w : Listed) → pass_refusal c n room ≡ 0 → w ≡ listing c n room → (clock_lawful c ≡ true) × (w.passed ≤ ticks_of_day)
+pub may_move : (c : Clock) (n room : ℕ) (w : Passed) → pass_refusal c n room ≡ 0 → w ≡ listing c n room → (clock_lawful c ≡ true) × (w.passed.ticks ≤ ticks_of_day)
 unfolding listing
 may_move c n room w e l =
     let m = may_list c n room e in
     (m.0, le_trans (rw l (passes c n room m.2).0) m.1)
 
-pub refused : (c : Clock) (n r : ℕ) (row : List ℕ) → r ≡ pass_refusal c n (length row) → (r ≡ 0 → ⊥)
-    → (◌≡◌ {A = Passed} (record { clock = c; number = r; passed = record { ticks = 0 }; written = 0; fell = fell [] }) (pass c n (length row))) × (row ≡ row_passed c n row)
-unfolding pass row_passed
-refused c n r row e h =
-    let x : eqb (pass_refusal c n (length row)) 0 ≡ false = ne_eqb _ _ (λ z. h (e ∙ z)) in
-    (simp x (ap (λ (k : ℕ). record { clock = c; number = k; passed = record { ticks = 0 }; written = 0; fell = fell [] }) e), simp x)
+-- a refusal leaves clock and row
+pub refused : (c : Clock) (n : ℕ) (row : List ℕ) (r : Refusal) → (pass_refusal c n (length row) ≡ 0 → ⊥) × (r ≡ refusal (pass_refusal c n (length row)))
+    → (◌≡◌ {A = Answer Clock Passed} (record { after = c; outcome = Err r }) (pass c n (length row))) × (row ≡ row_passed c n row)
+unfolding pass row_passed pass_refusal
+refused c n row r h =
+    let x : eqb (pass_refusal c n (length row)) 0 ≡ false = ne_eqb _ _ h.0 in
+    (simp x (rw h.1), simp x)
 
-pub pass_answers : (c : Clock) (n : ℕ) (row₀ row₁ : List ℕ) (w : Listed) (d : Clock) → pass_refusal c n (length row₀) ≡ 0 → w ≡ listing c n (length row₀) → row₁ ≡ row_listed c n row₀ → d ≡ clock_later w.passed c
-    → (◌≡◌ {A = Passed} (record { clock = d; number = 0; passed = record { ticks = w.passed }; written = w.written; fell = w.fell }) (pass c n (length row₀))) × (row₁ ≡ row_passed c n row₀)
-unfolding pass row_passed listing
+-- and else the row is filled, and the clock moved by the ticks that it passed
+pub pass_answers : (c : Clock) (n : ℕ) (row₀ row₁ : List ℕ) (w : Passed) (d : Clock) → pass_refusal c n (length row₀) ≡ 0 → w ≡ listing c n (length row₀) → row₁ ≡ row_listed c n row₀ → d ≡ clock_later w.passed.ticks c
+    → (◌≡◌ {A = Answer Clock Passed} (record { after = d; outcome = Ok w }) (pass c n (length row₀))) × (row₁ ≡ row_passed c n row₀)
+unfolding pass row_passed listing pass_refusal
 pass_answers c n row₀ row₁ w d e l r k =
     let x : eqb (pass_refusal c n (length row₀)) 0 ≡ true = eq-eqb _ _ e in
     (simp x (rw (k, l)), simp x r)
@@ -80,16 +84,22 @@ module _ (c : Clock) (n room : ℕ) where
   abbrev table : ℕ
   table = given (18 if not (clock_lawful c) ∷ wait_lines c n room)
 
-  pub pass_done : table ≡ 0
-      → pass c n room
-      ≡ record { clock = clock_later (passed c n room) c; number = 0; passed = record { ticks = passed c n room }; written = length (listed c n room); fell = fell (listed c n room) }
-  unfolding pass pass_refusal
+  pub pass_done : table ≡ 0 → pass c n room ≡ record { after = clock_later (passed c n room) c; outcome = Ok (listing c n room) }
+  unfolding pass
   pass_done e = simp (eq-eqb table 0 e)
 
-  pub pass_not : (table ≡ 0 → ⊥)
-      → pass c n room ≡ record { clock = c; number = table; passed = record { ticks = 0 }; written = 0; fell = record { periodic = false; strobe = false; second = false } }
-  unfolding pass pass_refusal source_listed
+  pub pass_not : (table ≡ 0 → ⊥) → pass c n room ≡ record { after = c; outcome = Err (refusal table) }
+  unfolding pass
   pass_not e = simp (ne_eqb table 0 e)
+
+  -- beside a refusal it gives nothing: no ticks, no records, no sources
+  pub pass_gives : given_or nothing (pass c n room).outcome ≡ pick (eqb table 0) (listing c n room) nothing
+  unfolding pass
+  pass_gives = by (eqb table 0)
+    where
+      by : (t : Bool) → given_or nothing (pick t (Ok (listing c n room)) (Err (refusal table))) ≡ pick t (listing c n room) nothing
+      by true = refl
+      by false = refl
 
 module _ (c : Clock) (n : ℕ) (row : List ℕ) where
   pub row_done : table c n (length row) ≡ 0 → row_passed c n row ≡ row_listed c n row
@@ -101,6 +111,11 @@ module _ (c : Clock) (n : ℕ) (row : List ℕ) where
   row_not e = simp (ne_eqb (table c n (length row)) 0 e)
 
 -- its number is that of its table; a refused wait passes nothing, writes nothing and leaves the clock
-pub pass_number : (c : Clock) (n room : ℕ) → (pass c n room).number ≡ pass_refusal c n room
-unfolding pass
-pass_number c n room = picked (λ (p : Passed). p.number) (eqb (pass_refusal c n room) 0) _ _ ∙ zero_or (pass_refusal c n room) (eqb (pass_refusal c n room) 0) refl
+pub pass_number : (c : Clock) (n room : ℕ) → number_of (pass c n room).outcome ≡ pass_refusal c n room
+unfolding pass pass_refusal
+pass_number c n room = given_number (18 if not (clock_lawful c) ∷ wait_lines c n room) (listing c n room) refl
+
+-- what a wait gives, field by field
+pub listing_gives : (c : Clock) (n room : ℕ) → listing c n room ≡ record { passed = record { ticks = passed c n room }; written = length (listed c n room); fell = fell (listed c n room) }
+unfolding listing
+listing_gives c n room = refl

@@ -83,9 +83,9 @@ start_ready ms l h =
     let p : Proper (instant 2004 1 0) = record { year = lit≤ tt; day_low = lit≤ tt; day_high = omega (arith, days_in_year 2004); tick = lit< tt } in
     let e : ms * 10000 - 0 ≡ ms * 10000 = omega arith in
     record {
-      second = second_rhythm (instant 2004 1 0) p 10000000 (gap_high 0 10000000 0 (lit< tt) (lit≤ tt));
-      strobe = strobe_each (instant 2004 1 0) p _ (record { ms = ms }) (ms * 10000) refl h (rw e at (gap_low 0 10000000 (ms * 10000) (omega arith) (omega arith)));
-      periodic = periodic_every _ 2000 2000 0 4000000 refl (lit< tt) (lit≤ tt) (gap_high 0 4000000 0 (lit< tt) (lit≤ tt));
+      second = second_rhythm (instant 2004 1 0) p (start ms).second (gap_high 0 10000000 0 (lit< tt) (lit≤ tt)) refl;
+      strobe = strobe_each (instant 2004 1 0) p _ (record { ms = ms }) (start ms).strobe refl h (rw e at (gap_low 0 10000000 (ms * 10000) (omega arith) (omega arith))) refl;
+      periodic = periodic_every _ 2000 2000 0 (start ms).periodic refl (lit< tt) (lit≤ tt) (gap_high 0 4000000 0 (lit< tt) (lit≤ tt)) refl;
     }
 
 -- the records of 10,000,000 ticks of it, with the strobe at 200 and at 400 milliseconds

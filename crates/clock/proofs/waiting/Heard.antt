@@ -13,11 +13,11 @@ use Rattle.wire.specs.Time.{ticks_of_day}
 use Rattle.wire.proofs.digits.Laws.{lt_or_le, or_assoc}
 use Rattle.clock.specs.declared.clock.Clock.{Clock}
 use Rattle.clock.specs.declared.falling.Sources.{Sources}
-use Rattle.clock.specs.declared.waiting.Listed.{Listed}
+use Rattle.clock.specs.declared.waiting.Passed.{Passed}
 use Rattle.clock.specs.Time.{later}
 use Rattle.clock.specs.Falling.{second_falls, strobe_falls, periodic_falls, falls}
-use Rattle.clock.specs.Waiting.{record_of, records, row_listed, moved_on, source_listed, fell}
-use Rattle.clock.specs.Sources.{NextFall, Ready, second_on, strobe_on, within, listing}
+use Rattle.clock.specs.Waiting.{record_of, records, row_listed, moved_on, source_listed, fell, listing, nothing}
+use Rattle.clock.specs.Sources.{NextFall, Ready, second_on, strobe_on, within}
 use Rattle.clock.proofs.waiting.Window.{Filled}
 
 -- ---- which sources a list has
@@ -34,6 +34,11 @@ is_one false = refl
 pub none_listed : (w : ℕ) → source_listed w [] ≡ false
 unfolding source_listed
 none_listed w = refl
+
+-- what is told beside a refusal, field by field
+pub nothing_is : nothing ≡ record { passed = record { ticks = 0 }; written = 0; fell = record { periodic = false; strobe = false; second = false } }
+unfolding source_listed
+nothing_is = refl
 
 -- records moved on have the same sources; w is 1, 2 or 4
 listed_moved : (w p : ℕ) → ((r : ℕ) → (8 * p + r) / w % 2 ≡ r / w % 2) → (rs : List ℕ) → source_listed w (moved_on p rs) ≡ source_listed w rs
@@ -109,7 +114,7 @@ module _ (c : Clock) where
 
 -- what a filled row comes to
 pub told : (c : Clock) (first : Sources) (n p i : ℕ) (row₀ row : List ℕ) → Ready c 0 first → n ≤ ticks_of_day → Filled c n row₀ row p i
-    → (◌≡◌ {A = Listed} (record { passed = p; written = i; fell = within first p }) (listing c n (length row₀))) × (row ≡ row_listed c n row₀)
+    → (◌≡◌ {A = Passed} (record { passed = record { ticks = p }; written = i; fell = within first p }) (listing c n (length row₀))) × (row ≡ row_listed c n row₀)
 unfolding listing
 told c first n p i row₀ row r d f =
     let e : fell (records c p) ≡ within first p = fell_within c first p r (omega (arith, f.within)) in

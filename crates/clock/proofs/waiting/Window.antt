@@ -21,7 +21,7 @@ use Rattle.clock.specs.declared.falling.Sources.{Sources}
 use Rattle.clock.specs.Time.{later}
 use Rattle.clock.specs.Falling.{second_falls, strobe_falls, periodic_falls, falls}
 use Rattle.clock.specs.Waiting.{record_of, records, listed, passed}
-use Rattle.clock.specs.Sources.{Rhythm, Ready, second_on, strobe_on, least_of, marks, past_of, all_past, Brief}
+use Rattle.clock.specs.Sources.{Rhythm, Ready, second_on, strobe_on, least_of, marks, past_of, all_past}
 
 -- ---- the records, from one tick on which anything falls to the next
 
@@ -170,9 +170,6 @@ held_none c n row s h = record {
   holds = refl;
   last = λ z. absurd (omega arith);
 }
-
-pub brief : (c : Clock) (a : ℕ) (s : Sources) → Ready c a s → Brief s
-brief c a s h = record { second = h.second.small; strobe = h.strobe.small; periodic = h.periodic.small }
 
 -- the record of the least next fall is stored
 pub held_more : (c : Clock) (n : ℕ) (row₀ row : List ℕ) (s : Sources) (a i : ℕ) → n ≤ ticks_of_day → i < length row → least_of s ≤ n

@@ -1,18 +1,27 @@
 -- The search: what it has met before n1, and why it may stop. A pair that was not met, either way round, has no divider below n1, so its product is at least n1 × n1.
 -- Assumes nothing.
 use Prim.Native.Nat.{ℕ, ◌+◌, ◌*◌, ◌/◌, ◌≤◌, ◌<◌}
-use mathlib.Core.Path.{◌≡◌}
+use mathlib.Core.Path.{◌≡◌, refl, ap, subst, ◌∙◌}
 use mathlib.Core.Bool.{Bool, true, false}
 use mathlib.Core.Logic.{⊎_elim}
 use native.Mathlib.Nat.{mul-le-mul, mul_comm, le_trans, le_refl}
 use native.Mathlib.Omega.{arith}
 use Rattle.wire.specs.Digits.{pick}
-use Rattle.wire.proofs.digits.Laws.{lt_or_le}
+use lib.Dec.{leb}
+use borrow.Author.Tests.{leb-true}
+use Rattle.std.specs.Prelude.{max}
+use Rattle.wire.proofs.digits.Laws.{lt_or_le, and_right}
 use Rattle.dividers.specs.declared.pairs.Pair.{Pair}
-use Rattle.dividers.specs.Pairs.{pair, lawful, product, distance}
-use Rattle.dividers.specs.Nearest.{before, with_n1, nearest, Begins}
+use Rattle.dividers.specs.declared.pairs.Nearest.{Nearest}
+use Rattle.dividers.specs.Pairs.{pair, lawful, product, distance, measured, nearer}
+use Rattle.dividers.specs.Nearest.{before, with_n1, nearest, wanted_fits, Begins}
 use Rattle.dividers.proofs.pairs.Laws.{Within, within, is_lawful, turned, rank, by_distance, by_n1, rank_distance}
-use Rattle.dividers.proofs.nearest.Laws.{sooner, row_fits, row_n1, row_least, least_is}
+use Rattle.dividers.proofs.nearest.Laws.{sooner, row_fits, row_n1, row_least, least_is, nearer_is}
+
+-- what a wanted period is at most
+pub most : (wanted : ℕ) → wanted_fits wanted ≡ true → wanted ≤ 429483622500
+unfolding wanted_fits
+most wanted h = leb-true wanted 429483622500 (and_right (leb 400 wanted) (leb wanted 429483622500) h)
 
 -- with every n1 before this one met: the best is a lawful pair, and none that was met is exact or comes before it
 pub record Met (wanted n1 : ℕ) (best : Pair) : Type 0 where
@@ -26,7 +35,7 @@ either : (P : Pair → Type 0) {p q : Pair} (t : Bool) → P p → P q → P (pi
 either P true a b = a
 either P false a b = b
 
-module _ (wanted : ℕ) (most : wanted ≤ 429483622500) where
+module _ (wanted : ℕ) (below : wanted ≤ 429483622500) where
   -- THE FIRST N1
 
   -- none is smaller than 2
@@ -41,6 +50,14 @@ module _ (wanted : ℕ) (most : wanted ≤ 429483622500) where
       further q h l =
           let m : product q ≤ q.n1 * 65535 = mul-le-mul {n₁ = q.n1} {m₁ = q.n2} {n₂ = q.n1} {m₂ = 65535} (le_refl q.n1) (within q h).high2 in
           omega arith
+
+  -- so it is the larger of the two
+  pub begins_at : Begins wanted (max (wanted / 6553500) 2)
+  begins_at =
+      ⊎_elim
+      (λ l. subst (Begins wanted) (omega arith) from_two)
+      (λ g. subst (Begins wanted) (omega arith) (from_quotient g))
+      (lt_or_le (wanted / 6553500) 2)
 
   pub begins : (n1 : ℕ) → Begins wanted n1 → Met wanted n1 (pair n1 65535)
   begins n1 f =
@@ -153,3 +170,55 @@ module _ (wanted : ℕ) (most : wanted ≤ 429483622500) where
             let q : lawful (pair 65535 65535) ≡ true = is_lawful 65535 65535 (omega arith) (omega arith) (omega arith) (omega arith) in
             let d = rank_distance wanted best (pair 65535 65535) bounds (within (pair 65535 65535) q) (g.none (pair 65535 65535) q (omega arith)).1 in
             omega arith
+
+-- WITH WHAT IS MEASURED
+
+-- the best so far, measured, with every n1 before this one met
+pub record Best (wanted n1 : ℕ) (best : Nearest) : Type 0 where
+  pub is : best ≡ measured wanted best.pair
+  pub met : Met wanted n1 best.pair
+
+module _ (wanted : ℕ) (fits : wanted_fits wanted ≡ true) where
+  pub best_begins : (n1 : ℕ) → Begins wanted n1 → Best wanted n1 (measured wanted (pair n1 65535))
+  best_begins n1 f = record { is = refl; met = begins wanted (most wanted fits) n1 f }
+
+  module _ (n1 : ℕ) (best : Nearest) (b : Best wanted n1 best) where
+    far : best.distance ≡ distance wanted best.pair
+    far = ap (λ (m : Nearest). m.distance) b.is
+
+    pub best_most : best.distance ≤ 429483622500
+    best_most = rw far (distance_most wanted (most wanted fits) n1 best.pair b.met)
+
+    -- after a turn that met no exact pair
+    pub best_goes_on : n1 ≤ 65535 → 0 < distance wanted (with_n1 wanted n1) → Best wanted (n1 + 1) (nearer (measured wanted (with_n1 wanted n1)) best)
+    best_goes_on h z =
+        let n = row_n1 wanted n1 b.met.low h in
+        let e = nearer_is wanted (with_n1 wanted n1) best.pair (omega (arith, b.met.from)) in
+        rw (ap (nearer (measured wanted (with_n1 wanted n1))) b.is ∙ e)
+        (record { is = refl; met = goes_on_lem wanted (most wanted fits) n1 best.pair b.met h z })
+
+    pub best_exact : n1 ≤ 65535 → distance wanted (with_n1 wanted n1) ≡ 0 → measured wanted (with_n1 wanted n1) ≡ measured wanted (nearest wanted)
+    best_exact h z = ap (measured wanted) (exact wanted (most wanted fits) n1 best.pair b.met h z)
+
+    pub best_stops : wanted + best.distance ≤ 100 * (n1 * n1) → best ≡ measured wanted (nearest wanted)
+    best_stops h = b.is ∙ ap (measured wanted) (stops wanted (most wanted fits) n1 best.pair b.met (rw far at h))
+
+    pub best_within : n1 ≤ 65536 → 100 * (n1 * n1) < wanted + best.distance → n1 ≤ 65535
+    best_within l h = goes_within wanted (most wanted fits) n1 best.pair b.met l (rw far at h)
+
+-- after a turn that met no exact pair
+module _ (wanted : ℕ) (fits : wanted_fits wanted ≡ true) (n1 : ℕ) (best : Nearest) (b : Best wanted n1 best) (h : n1 ≤ 65535) (next new : Nearest)
+    (w : next ≡ measured wanted (with_n1 wanted n1)) (z : 0 < next.distance) (r : new ≡ nearer next best)
+  where
+    turned_best : Best wanted (n1 + 1) new
+    turned_best = rw (r, w) (best_goes_on wanted fits n1 best b h (omega (arith, ap (λ (m : Nearest). m.distance) w)))
+
+    pub turn_most : wanted + new.distance ≤ 858967245000
+    turn_most = omega (arith, most wanted fits, best_most wanted fits (n1 + 1) new turned_best)
+
+    pub turn_stops : wanted + new.distance ≤ 100 * ((n1 + 1) * (n1 + 1)) → new ≡ measured wanted (nearest wanted)
+    turn_stops s = best_stops wanted fits (n1 + 1) new turned_best s
+
+-- n1 × n1 up to the one behind the last
+pub square : (n : ℕ) → n ≤ 65536 → n * n ≤ 4294967296
+square n h = mul-le-mul {n₁ = n} {m₁ = n} {n₂ = 65536} {m₂ = 65536} h h

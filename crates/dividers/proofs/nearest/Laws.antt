@@ -113,6 +113,13 @@ module _ (wanted : ℕ) where
     unfolding with_n1
     row_n1 = ap (λ (p : Pair). p.n1) row.is
 
+    pub row_n2 : (with_n1 wanted n1).n2 ≤ 65535
+    row_n2 = (within (with_n1 wanted n1) row_fits).high2
+
+    -- so it is known by its n2
+    pub row_is : measured wanted (pair n1 (with_n1 wanted n1).n2) ≡ measured wanted (with_n1 wanted n1)
+    row_is = ap (λ (m : ℕ). measured wanted (pair m (with_n1 wanted n1).n2)) (sym row_n1)
+
     pub row_least : (q : Pair) → lawful q ≡ true → q.n1 ≡ n1 → rank wanted (with_n1 wanted n1) ≤ rank wanted q
     unfolding with_n1
     row_least q h e =

@@ -5,6 +5,7 @@ use mathlib.Core.Path.{◌≡◌, refl, sym, ap, subst, ◌∙◌}
 use mathlib.Core.Logic.{⊎_elim}
 use native.Mathlib.Nat.{mul-le-mul_left, mul-suc, mul_comm, mul_assoc, div-mul-le_self, lt-div-mul-add, le-div_iff_mul-le, div-lt_iff_lt-mul, le_refl}
 use native.Mathlib.Omega.{arith}
+use Rattle.std.specs.Prelude.{min, max}
 use Rattle.wire.proofs.digits.Laws.{lt_or_le}
 use Rattle.dividers.specs.declared.pairs.Pair.{Pair}
 use Rattle.dividers.specs.Pairs.{pair, distance}
@@ -80,3 +81,14 @@ module _ (wanted n1 : ℕ) (a : 2 ≤ n1) (b : n1 ≤ 65535) where
 
         unit : m * (100 * n1) ≡ 100 * (n1 * m)
         unit = mul_comm m (100 * n1) ∙ mul_assoc 100 n1 m
+
+    -- held at both ends
+    pub held : max 2 (min (x / (100 * n1)) 65535) ≡ (with_n1 wanted n1).n2
+    held =
+        ⊎_elim
+        (λ l. omega (arith, held_low l))
+        (λ g. ⊎_elim
+        (λ l. omega (arith, held_high l))
+        (λ h. omega (arith, not_held g h))
+        (lt_or_le 65535 (x / (100 * n1))))
+        (lt_or_le (x / (100 * n1)) 2)

@@ -1,16 +1,21 @@
 -- Lawful pairs, and the rule between two pairs as an order of numbers: a pair's rank has its distance in front, its product behind that, and its n1 last. Assumes nothing.
-use Prim.Native.Nat.{ℕ, ◌+◌, ◌*◌, ◌≤◌, ◌<◌}
+use Prim.Native.Nat.{ℕ, ◌+◌, ◌-◌, ◌*◌, ◌≤◌, ◌<◌}
 use mathlib.Core.Path.{◌≡◌, sym, ap, ap₂, ◌∙◌}
 use mathlib.Core.Bool.{true}
 use native.Mathlib.Nat.{mul-le-mul, eq_of_mul-eq-mul_left}
 use native.Mathlib.Omega.{arith}
+use Rattle.std.specs.Prelude.{min, max}
 use Rattle.clock.proofs.setting.Laws.{pair_fits}
 use Rattle.dividers.specs.declared.pairs.Pair.{Pair}
-use Rattle.dividers.specs.Pairs.{pair, lawful, product, distance}
+use Rattle.dividers.specs.Pairs.{pair, lawful, product, apart, distance}
 
 -- what two dividers make at most
 pub product_most : (n1 n2 : ℕ) → n1 ≤ 65535 → n2 ≤ 65535 → n1 * n2 ≤ 4294836225
 product_most n1 n2 a b = mul-le-mul {n₁ = n1} {m₁ = n2} {n₂ = 65535} {m₂ = 65535} a b
+
+-- how far two periods are apart, as the library says it
+pub apart_is : (a b : ℕ) → max a b - min a b ≡ apart a b
+apart_is a b = omega arith
 
 -- what a lawful pair is within
 pub record Within (p : Pair) : Type 0 where

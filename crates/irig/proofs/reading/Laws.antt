@@ -4,21 +4,23 @@
 use Prim.Native.Nat.{ℕ, zero, suc, ◌+◌, ◌*◌, ◌/◌, ◌%◌, ◌^◌, ◌≤◌, ◌<◌}
 use mathlib.Core.Path.{◌≡◌, refl, sym, ◌∙◌, ap}
 use mathlib.Core.Bool.{Bool, true, false, ◌&&◌}
-use mathlib.Core.List.{List, [], ◌∷◌, map}
+use mathlib.Core.List.{List, [], ◌∷◌, ◌++◌, map}
 use mathlib.Core.Logic.{⊎_elim}
 use native.Mathlib.Nat.{mul_comm, mul_assoc, mul-le-mul, mod-eq_of_lt}
 use native.Mathlib.Omega.{arith}
 use lib.Pow.{pow-add, pow_mono}
 use lib.Dec.{ltb, eqb, lit<, lit≤}
-use lib.ListN.{length, get_or}
+use lib.ListN.{length, get_or, length-append}
 use borrow.Author.Tests.{lt-ltb, eq-eqb, ne_eqb, le-ltb}
 use Rattle.wire.specs.Digits.{pick, num, below, packed, unpacked}
 use Rattle.wire.specs.Time.{without_fraction}
-use Rattle.wire.specs.Words.{decimal, day_in, tick_in, time_read, read_words, read_digits}
-use Rattle.wire.specs.declared.words.TimeRead.{TimeRead}
+use Rattle.wire.specs.Words.{decimal, day_in, tick_in, moment, read_words, read_digits}
+use Rattle.std.specs.Prelude.{Some, None, Ok, Err}
+use Rattle.wire.specs.declared.numbers.Refusal.{Refusal}
+use Rattle.wire.specs.declared.words.Moment.{Moment}
+use Rattle.wire.proofs.numbers.Names.{bad_digit_named, outside_time_named, short_row_named, wrong_marker_named, spare_set_named, seconds_differ_named}
 use Rattle.wire.proofs.digits.Laws.{unpack_packed, and_true, lt_or_le, clash}
 use Rattle.wire.proofs.words.Laws.{read_by_digits, read_bad, read_outside, read_done, whole_second}
-use Rattle.irig.specs.declared.reading.Summed.{Summed}
 use Rattle.irig.specs.Table.{Field, Element, field_number, table, at, sum_to, all_to, field_shift, shift_of}
 use Rattle.irig.specs.Reading.{fits, all_fit, clear, spares_clear, share, field_in, digits_of, digits_in, digits_in_range, read_refusal, read_frame, weighed, weighed_to, scanned, words_in}
 use Rattle.irig.proofs.table.Laws.{shift_is, fit_at, field_to, field_whole, field_small, bit_low, together, bounds, together_small}
@@ -64,7 +66,7 @@ weighed_is Element.marker e = refl
 weighed_is Element.spare e = omega arith
 weighed_is (Element.bit f i) e = shifted e (field_shift f) i ∙ one_field f (e * 2 ^ i) ∙ omega arith
 
-pub zero_sum : (a e : ℕ) → (eqb a 0 && ltb e 1) ≡ eqb (a + e) 0
+zero_sum : (a e : ℕ) → (eqb a 0 && ltb e 1) ≡ eqb (a + e) 0
 zero_sum a e =
     ⊎_elim
     (λ p. ⊎_elim
@@ -74,7 +76,7 @@ zero_sum a e =
     (λ p. simp (ne_eqb a 0 (λ z. omega arith), ne_eqb (a + e) 0 (λ z. omega arith)))
     (lt_or_le a 1)
 
-below_one : (e : ℕ) → ltb e 1 ≡ eqb e 0
+pub below_one : (e : ℕ) → ltb e 1 ≡ eqb e 0
 below_one e = ⊎_elim (λ p. simp (lt-ltb e 1 p, eq-eqb e 0 (omega arith))) (λ q. simp (le-ltb e 1 q, ne_eqb e 0 (λ z. omega arith))) (lt_or_le e 1)
 
 clear_one : (a : ℕ) (t : Element) (e : ℕ) → (eqb a 0 && clear t e) ≡ eqb (a + spare_share t e) 0
@@ -284,27 +286,54 @@ module _ (ss : List ℕ) (is : ss ≡ map shift_of table) (row : List ℕ) (n i 
       let x : get_or row i 0 * 2 ^ get_or ss i 0 % 18446744073709551616 ≡ get_or row i 0 * 2 ^ get_or ss i 0 = mod-eq_of_lt (omega arith) in
       let u = s.small in omega arith
 
+  -- the same at a turn of a loop that counts what it has come by
+  pub turn_marker : {A : Type 0} (ys : List A) (y : A) → i ≡ length ys → Scanning row n i → get_or ss i 0 ≡ 64 → get_or row i 0 ≡ 2 → Scanning row n (length (ys ++ y ∷ []))
+  turn_marker ys y e s p q = rw (length-append ys (y ∷ []), sym e) (scan_marker s p q)
+
+  pub turn_plain : {A : Type 0} (ys : List A) (y : A) → i ≡ length ys → Scanning row n i → (get_or ss i 0 ≡ 64 → ⊥) → get_or row i 0 ≤ 1
+      → Scanning row (n + get_or row i 0 * 2 ^ get_or ss i 0 % 18446744073709551616) (length (ys ++ y ∷ []))
+  turn_plain ys y e s p q = rw (length-append ys (y ∷ []), sym e) (scan_plain s p q)
+
 -- an element that does not fit
-misfit_scan : (row : List ℕ) (i : ℕ) → i < 100 → fits (at i) (get_or row i 0) ≡ false → scanned row ≡ record { fits = false; number = 0 }
+misfit_scan : (row : List ℕ) (i : ℕ) → i < 100 → fits (at i) (get_or row i 0) ≡ false → None ≡ scanned row
 unfolding scanned
 misfit_scan row i l e = go (all_fit row) refl
   where
-    go : (t : Bool) → all_fit row ≡ t → ◌≡◌ {A = Summed} (record { fits = t; number = pick t (weighed_to row 100) 0 }) (record { fits = false; number = 0 })
+    go : (t : Bool) → all_fit row ≡ t → None ≡ pick t (Some (weighed_to row 100)) None
     go true h = clash (sym (fit_at row h i l) ∙ e)
     go false h = refl
 
 module _ (ss : List ℕ) (is : ss ≡ map shift_of table) (row : List ℕ) (i : ℕ) (l : i < 100) where
-  pub marker_missing : get_or ss i 0 ≡ 64 → (get_or row i 0 ≡ 2 → ⊥) → record { fits = false; number = 0 } ≡ scanned row
-  marker_missing p e = sym (misfit_scan row i l (marker_fits (at i) (get_or row i 0) (marker_shift i l (sym (shift_is ss is i l) ∙ p)) ∙ ne_eqb (get_or row i 0) 2 e))
+  pub marker_missing : get_or ss i 0 ≡ 64 → (get_or row i 0 ≡ 2 → ⊥) → None ≡ scanned row
+  marker_missing p e = misfit_scan row i l (marker_fits (at i) (get_or row i 0) (marker_shift i l (sym (shift_is ss is i l) ∙ p)) ∙ ne_eqb (get_or row i 0) 2 e)
 
-  pub element_above : (get_or ss i 0 ≡ 64 → ⊥) → 1 < get_or row i 0 → record { fits = false; number = 0 } ≡ scanned row
-  element_above p e = sym (misfit_scan row i l ((plain_shift i l (λ q. p (shift_is ss is i l ∙ q))).fit (get_or row i 0) ∙ le-ltb (get_or row i 0) 2 e))
+  pub element_above : (get_or ss i 0 ≡ 64 → ⊥) → 2 ≤ get_or row i 0 → None ≡ scanned row
+  element_above p e = misfit_scan row i l ((plain_shift i l (λ q. p (shift_is ss is i l ∙ q))).fit (get_or row i 0) ∙ le-ltb (get_or row i 0) 2 e)
 
-pub scan_all : (row : List ℕ) (n i : ℕ) → i ≡ 100 → Scanning row n i → record { fits = true; number = n } ≡ scanned row
+pub scan_all : (row : List ℕ) (n i : ℕ) → i ≡ 100 → Scanning row n i → Some n ≡ scanned row
 unfolding scanned all_fit
 scan_all row n i e s =
     let f : all_to 100 (λ (j : ℕ). fits (at j) (get_or row j 0)) ≡ true = ap (λ (k : ℕ). all_to k (λ (j : ℕ). fits (at j) (get_or row j 0))) (sym e) ∙ s.fit in
     simp (f, s.sum, e)
+
+-- a row of which the pass comes to a number
+pub scan_fits : (row : List ℕ) (n : ℕ) → Some n ≡ scanned row → (all_fit row ≡ true) × (n ≡ weighed_to row 100)
+unfolding scanned
+scan_fits row n e = go (all_fit row) refl e
+  where
+    go : (t : Bool) → all_fit row ≡ t → Some n ≡ pick t (Some (weighed_to row 100)) None → (t ≡ true) × (n ≡ weighed_to row 100)
+    go true h q = (refl, cc)
+    go false h q = cc
+
+pub scan_none_fits : (row : List ℕ) → None ≡ scanned row → all_fit row ≡ false
+unfolding scanned
+scan_none_fits row e = go (all_fit row) refl e
+  where
+    go : (t : Bool) → all_fit row ≡ t → None ≡ pick t (Some (weighed_to row 100)) None → t ≡ false
+    go true h q = cc
+    go false h q = refl
+
+pub ruleset scans = (scan_none, turn_marker, turn_plain, marker_missing, element_above, scan_all, shift_low, sum_fits)
 
 -- THE CALL
 
@@ -317,110 +346,97 @@ module _ (row : List ℕ) where
   abbrev ds : List ℕ
   ds = digits_in row
 
-  pub read_short : length row < 100 → read_frame row ≡ time_read 14 0 0
+  pub read_short : length row < 100 → Err Refusal.ShortRow ≡ read_frame row
   unfolding read_frame read_refusal
-  read_short l = simp (lt-ltb (length row) 100 l)
+  read_short l = simp (lt-ltb (length row) 100 l, short_row_named)
 
   module _ (l : 100 ≤ length row) where
-    pub read_misfit : all_fit row ≡ false → read_frame row ≡ time_read 22 0 0
+    pub read_misfit : all_fit row ≡ false → Err Refusal.WrongMarker ≡ read_frame row
     unfolding read_frame read_refusal
-    read_misfit e = simp (le-ltb (length row) 100 l, e)
+    read_misfit e = simp (le-ltb (length row) 100 l, e, wrong_marker_named)
 
     module _ (f : all_fit row ≡ true) where
-      pub read_spare : spares_clear row ≡ false → read_frame row ≡ time_read 23 0 0
+      pub read_spare : spares_clear row ≡ false → Err Refusal.SpareSet ≡ read_frame row
       unfolding read_frame read_refusal
-      read_spare e = simp (le-ltb (length row) 100 l, f, e)
+      read_spare e = simp (le-ltb (length row) 100 l, f, e, spare_set_named)
 
       module _ (s : spares_clear row ≡ true) where
         -- 17 and 11 are those of time words
-        pub read_refused : ((read_digits ds).number ≡ 0 → ⊥) → read_digits ds ≡ read_frame row
+        pub read_refused : (r : Refusal) → read_digits ds ≡ Err r → Err r ≡ read_frame row
         unfolding read_frame read_refusal
-        read_refused z = go (decimal ds) refl (digits_in_range ds) refl
+        read_refused r z = go (decimal ds) refl (digits_in_range ds) refl
           where
-            go : (d : Bool) → decimal ds ≡ d → (r : Bool) → digits_in_range ds ≡ r → read_digits ds ≡ read_frame row
-            go false d r e = read_bad ds d ∙ sym (simp (le-ltb (length row) 100 l, f, s, d))
-            go true d false e = read_outside ds d e ∙ sym (simp (le-ltb (length row) 100 l, f, s, d, e))
-            go true d true e = absurd (z (ap (λ (t : TimeRead). t.number) (read_done ds d e)))
+            go : (d : Bool) → decimal ds ≡ d → (g : Bool) → digits_in_range ds ≡ g → Err r ≡ read_frame row
+            go false d g e = sym z ∙ read_bad ds d ∙ simp (le-ltb (length row) 100 l, f, s, d, bad_digit_named)
+            go true d false e = sym z ∙ read_outside ds d e ∙ simp (le-ltb (length row) 100 l, f, s, d, e, outside_time_named)
+            go true d true e = cc (z, read_done ds d e)
 
-        record Read : Type 0 where
+        record Read (m : Moment) : Type 0 where
           digits : decimal ds ≡ true
           range : digits_in_range ds ≡ true
-          is : read_digits ds ≡ time_read 0 (day_in ds) (tick_in ds)
+          is : m ≡ moment (day_in ds) (tick_in ds)
 
-        read_tested : (read_digits ds).number ≡ 0 → Read
-        read_tested z = go (decimal ds) refl (digits_in_range ds) refl
+        read_tested : (m : Moment) → read_digits ds ≡ Ok m → Read m
+        read_tested m z = go (decimal ds) refl (digits_in_range ds) refl
           where
-            go : (d : Bool) → decimal ds ≡ d → (r : Bool) → digits_in_range ds ≡ r → Read
-            go false d r e = absurd (let q : 17 ≡ 0 = sym (ap (λ (t : TimeRead). t.number) (read_bad ds d)) ∙ z in omega arith)
-            go true d false e = absurd (let q : 11 ≡ 0 = sym (ap (λ (t : TimeRead). t.number) (read_outside ds d e)) ∙ z in omega arith)
-            go true d true e = record { digits = d; range = e; is = read_done ds d e }
+            go : (d : Bool) → decimal ds ≡ d → (r : Bool) → digits_in_range ds ≡ r → Read m
+            go false d r e = cc (z, read_bad ds d)
+            go true d false e = cc (z, read_outside ds d e)
+            go true d true e = record { digits = d; range = e; is = cc (z, read_done ds d e) }
 
-        module _ (z : (read_digits ds).number ≡ 0) where
-          tick_read : (read_digits ds).tick.ticks ≡ tick_in ds
-          tick_read = ap (λ (t : TimeRead). t.tick.ticks) (read_tested z).is
+        module _ (m : Moment) (z : read_digits ds ≡ Ok m) where
+          tick_read : m.tick.ticks ≡ tick_in ds
+          tick_read = ap (λ (t : Moment). t.tick.ticks) (read_tested m z).is
 
-          pub read_differs : ((read_digits ds).tick.ticks ≡ field_in row Field.binary_seconds * 10000000 → ⊥) → read_frame row ≡ time_read 24 0 0
+          pub read_differs : (m.tick.ticks ≡ field_in row Field.binary_seconds * 10000000 → ⊥) → Err Refusal.SecondsDiffer ≡ read_frame row
           unfolding read_frame read_refusal
           read_differs n =
-              let q = read_tested z in
+              let q = read_tested m z in
               let w = no_fraction row in
-              simp (le-ltb (length row) 100 l, f, s, q.digits, q.range, ne_eqb (field_in row Field.binary_seconds) (tick_in ds / 10000000) (λ e. n (tick_read ∙ w ∙ ap (λ (x : ℕ). x * 10000000) (sym e))))
+              simp (le-ltb (length row) 100 l, f, s, q.digits, q.range, ne_eqb (field_in row Field.binary_seconds) (tick_in ds / 10000000) (λ e. n (tick_read ∙ w ∙ ap (λ (x : ℕ). x * 10000000) (sym e))), seconds_differ_named)
 
-          pub read_time : (read_digits ds).tick.ticks ≡ field_in row Field.binary_seconds * 10000000 → read_digits ds ≡ read_frame row
+          pub read_time : m.tick.ticks ≡ field_in row Field.binary_seconds * 10000000 → Ok m ≡ read_frame row
           unfolding read_frame read_refusal
           read_time n =
-              let q = read_tested z in
+              let q = read_tested m z in
               let e : field_in row Field.binary_seconds * 10000000 ≡ tick_in ds = sym n ∙ tick_read in
-              q.is ∙ sym (simp (le-ltb (length row) 100 l, f, s, q.digits, q.range, eq-eqb (field_in row Field.binary_seconds) (tick_in ds / 10000000) (omega arith)))
+              ap Ok q.is ∙ sym (simp (le-ltb (length row) 100 l, f, s, q.digits, q.range, eq-eqb (field_in row Field.binary_seconds) (tick_in ds / 10000000) (omega arith)))
 
 -- EACH RETURN OF THE CODE
 
-module _ (row : List ℕ) (l : 100 ≤ length row) (s : Summed) (is : s ≡ scanned row) where
-  fits_is : s.fits ≡ all_fit row
-  unfolding scanned
-  fits_is = ap (λ (t : Summed). t.fits) is
+pub frame_22 : (row : List ℕ) → 100 ≤ length row → None ≡ scanned row → Err Refusal.WrongMarker ≡ read_frame row
+frame_22 row l e = read_misfit row l (scan_none_fits row e)
 
-  sum_is : all_fit row ≡ true → s.number ≡ weighed_to row 100
-  unfolding scanned
-  sum_is f = ap (λ (t : Summed). t.number) is ∙ ap (λ (t : Bool). pick t (weighed_to row 100) 0) f
+module _ (row : List ℕ) (n : ℕ) (l : 100 ≤ length row) (is : Some n ≡ scanned row) where
+  all : all_fit row ≡ true
+  all = (scan_fits row n is).0
 
-  pub frame_22 : s.fits ≡ false → (r : TimeRead) → r ≡ time_read 22 0 0 → r ≡ read_frame row
-  frame_22 f r e = e ∙ sym (read_misfit row l (sym fits_is ∙ f))
+  sum_is : n ≡ weighed_to row 100
+  sum_is = (scan_fits row n is).1
 
-  module _ (f : s.fits ≡ true) where
-    all : all_fit row ≡ true
-    all = sym fits_is ∙ f
+  pub frame_23 : (k : ℕ) → k ≡ 9007199254740992 → k ≤ n → Err Refusal.SpareSet ≡ read_frame row
+  frame_23 k e g = read_spare row l all (spare_set row all (rw (sym sum_is) (rw (sym e) g)))
 
-    pub frame_23 : 9007199254740992 ≤ s.number → (r : TimeRead) → r ≡ time_read 23 0 0 → r ≡ read_frame row
-    frame_23 g r e = e ∙ sym (read_spare row l all (spare_set row all (rw (sym (sum_is all)) g)))
+  module _ (g : n < 9007199254740992) where
+    small : weighed_to row 100 < 9007199254740992
+    small = rw (sym sum_is) g
 
-    module _ (g : s.number < 9007199254740992) (r : TimeRead) (e : r ≡ read_words (words_in s.number)) where
-      small : weighed_to row 100 < 9007199254740992
-      small = rw (sym (sum_is all)) g
+    clears : spares_clear row ≡ true
+    clears = spare_clear row all small
 
-      clears : spares_clear row ≡ true
-      clears = spare_clear row all small
+    digits : read_words (words_in n) ≡ read_digits (digits_in row)
+    digits = ap (λ (k : ℕ). read_words (words_in k)) sum_is ∙ digits_read row all small
 
-      digits : r ≡ read_digits (digits_in row)
-      digits = e ∙ ap (λ (n : ℕ). read_words (words_in n)) (sum_is all) ∙ digits_read row all small
+    seconds : n / 2 ^ 36 ≡ field_in row Field.binary_seconds
+    seconds = ap (λ (k : ℕ). k / 2 ^ 36) sum_is ∙ seconds_read row all small
 
-      number_of : r.number ≡ (read_digits (digits_in row)).number
-      number_of = ap (λ (t : TimeRead). t.number) digits
+    pub frame_digits : (r : Refusal) → Err r ≡ read_words (words_in n) → Err r ≡ read_frame row
+    frame_digits r e = read_refused row l all clears r (sym digits ∙ sym e)
 
-      pub frame_digits : (r.number ≡ 0 → ⊥) → r ≡ read_frame row
-      frame_digits n = digits ∙ read_refused row l all clears (λ z. n (number_of ∙ z))
+    pub frame_24 : (m : Moment) → Ok m ≡ read_words (words_in n) → (m.tick.ticks ≡ n / 2 ^ 36 * 10000000 → ⊥) → Err Refusal.SecondsDiffer ≡ read_frame row
+    frame_24 m e d = read_differs row l all clears m (sym digits ∙ sym e) (λ q. d (q ∙ ap (λ (x : ℕ). x * 10000000) (sym seconds)))
 
-      module _ (z : r.number ≡ 0) where
-        seconds : s.number / 2 ^ 36 ≡ field_in row Field.binary_seconds
-        seconds = ap (λ (n : ℕ). n / 2 ^ 36) (sum_is all) ∙ seconds_read row all small
+    pub frame_0 : (m : Moment) → Ok m ≡ read_words (words_in n) → m.tick.ticks ≡ n / 2 ^ 36 * 10000000 → Ok m ≡ read_frame row
+    frame_0 m e d = read_time row l all clears m (sym digits ∙ sym e) (d ∙ ap (λ (x : ℕ). x * 10000000) seconds)
 
-        tick_of : r.tick.ticks ≡ (read_digits (digits_in row)).tick.ticks
-        tick_of = ap (λ (t : TimeRead). t.tick.ticks) digits
-
-        pub frame_24 : (r.tick.ticks ≡ s.number / 2 ^ 36 * 10000000 → ⊥) → (t : TimeRead) → t ≡ time_read 24 0 0 → t ≡ read_frame row
-        frame_24 n t u =
-            u ∙ sym (read_differs row l all clears (sym number_of ∙ z) (λ q. n (tick_of ∙ q ∙ ap (λ (x : ℕ). x * 10000000) (sym seconds))))
-
-        pub frame_0 : r.tick.ticks ≡ s.number / 2 ^ 36 * 10000000 → r ≡ read_frame row
-        frame_0 n =
-            digits ∙ read_time row l all clears (sym number_of ∙ z) (sym tick_of ∙ n ∙ ap (λ (x : ℕ). x * 10000000) seconds)
+pub ruleset frames = (read_short, frame_22, frame_23, frame_digits, frame_24, frame_0)

@@ -1,59 +1,43 @@
 -- What the code of the stream rests on: a search, and then elements that are held behind those that are, are what comes of a row element by element.
 -- Assumes nothing.
-use Prim.Native.Nat.{ℕ, zero, suc, ◌+◌, ◌*◌, ◌-◌, ◌≤◌, ◌<◌}
-use mathlib.Core.Path.{◌≡◌, refl, sym, ◌∙◌, ap, ap₂}
+use Prim.Native.Nat.{ℕ, zero, suc, ◌+◌, ◌-◌, ◌≤◌, ◌<◌}
+use mathlib.Core.Path.{◌≡◌, refl, sym, ◌∙◌, ap, ap₂, subst}
 use mathlib.Core.Bool.{Bool, true, false, ◌&&◌, not}
 use mathlib.Core.List.{List, [], ◌∷◌, ◌++◌, append_assoc, append-nil}
 use native.Mathlib.Nat.{add-zero}
 use native.Mathlib.Omega.{arith}
 use lib.Dec.{ltb, eqb}
-use lib.ListN.{length, get_or, take, drop, set, replicate, length-set, length-drop, drop_of_length-le}
-use lib.Seq.{drop-cons, take-suc-set, drop-set-lt, get_or-set_same, get_or-take, get_or-drop, paste, paste-zero, length-paste}
+use lib.ListN.{length, get_or, take, drop, set, replicate, length-set, length-drop}
+use lib.Seq.{drop-cons, take-suc-set, drop-set-lt, get_or-set_same, get_or-take, get_or-drop, paste, paste-zero, length-take-le, take_all}
 use borrow.Author.Tests.{eqb-true, ltb-true, eq-eqb, ne_eqb, not-true}
 use Rattle.wire.specs.Digits.{pick, below}
-use Rattle.wire.proofs.digits.Laws.{and_assoc, and_true, zeros, and_right, and_both, clash}
-use Rattle.wire.specs.declared.words.TimeRead.{TimeRead}
+use Rattle.wire.proofs.digits.Laws.{zeros, and_right, and_both}
+use Rattle.std.specs.Prelude.{sum_by, Result, Some, None, Err}
+use Rattle.std.specs.List.{list_all}
+use Rattle.std.proofs.lemmas.List.Folds.{sum_by-zero}
+use Rattle.wire.specs.declared.numbers.Refusal.{Refusal}
+use Rattle.wire.specs.declared.numbers.Answer.{Answer}
+use Rattle.wire.specs.declared.words.Moment.{Moment}
+use Rattle.wire.proofs.numbers.Names.{unlawful_named}
 use Rattle.irig.specs.declared.stream.Stream.{Stream}
-use Rattle.irig.specs.declared.stream.Finished.{Finished}
 use Rattle.irig.specs.declared.stream.RowTaken.{RowTaken}
 use Rattle.irig.specs.declared.search.Searched.{Searched}
 use Rattle.irig.specs.Reading.{read_frame}
-use Rattle.irig.specs.Streams.{searching, lawful, holding, next, row_taken, frame_ends, behind, one_by_one, take_row, first_held, searched}
-use Rattle.irig.proofs.search.Laws.{searched_more, searched_second, searched_none, searched_within, second_is}
+use Rattle.irig.specs.Streams.{searching, lawful, holding, next, Taking, row_taken, frame_ends, behind, one_by_one, take_row, first_held, done, further, searched}
+use Rattle.irig.proofs.search.Laws.{searched_more, searched_second, searched_none, Second, second_is}
 use Rattle.irig.proofs.reading.Hundred.{only_hundred}
-use Rattle.irig.proofs.reading.Laws.{zero_sum}
+use Rattle.irig.proofs.reading.Laws.{below_one}
 
 -- ZEROS
 
-module _ (es : List ℕ) (from : ℕ) where
-  -- the elements from a place on add up to 0 up to place i exactly if all of them are 0 there
-  pub record Zeros (sum i : ℕ) : Type 0 where
-    pub rest : below 1 (drop from es) ≡ (eqb sum 0 && below 1 (drop i es))
-    pub small : sum ≤ i * 255
+-- they add up to 0 exactly if all of them are 0
+all_zeros : (es : List ℕ) → list_all (λ (e : ℕ). eqb e 0) es ≡ below 1 es
+unfolding below
+all_zeros [] = refl
+all_zeros (e ∷ es) = simp (below_one e, all_zeros es)
 
-  pub zeros_none : Zeros 0 from
-  zeros_none = record { rest = refl; small = omega arith }
-
-  pub zeros_more : (sum i : ℕ) → Zeros sum i → i < length es → get_or es i 0 < 256 → Zeros (sum + get_or es i 0) (i + 1)
-  unfolding below
-  zeros_more sum i z l b =
-      let u = z.small in
-      record {
-        rest =
-            z.rest
-            ∙ ap (λ (xs : List ℕ). eqb sum 0 && below 1 xs) (drop-cons es i 0 l)
-            ∙ sym (and_assoc (eqb sum 0) (ltb (get_or es i 0) 1) (below 1 (drop (suc i) es)))
-            ∙ ap₂ (λ (t : Bool) (j : ℕ). t && below 1 (drop j es)) (zero_sum sum (get_or es i 0)) (let o : suc i ≡ i + 1 = omega arith in o);
-        small = omega arith;
-      }
-
-  pub zeros_all : (sum i : ℕ) → Zeros sum i → length es ≤ i → eqb sum 0 ≡ below 1 (drop from es)
-  unfolding below
-  zeros_all sum i z l = sym (z.rest ∙ ap (λ (xs : List ℕ). eqb sum 0 && below 1 xs) (drop_of_length-le es l) ∙ and_true (eqb sum 0))
-
--- from the first place on
-pub drop_none : (es : List ℕ) (n : ℕ) → n ≡ 0 → below 1 (drop n es) ≡ below 1 es
-drop_none es n e = ap (λ (k : ℕ). below 1 (drop k es)) e
+pub no_sum : (es : List ℕ) → eqb (sum_by (λ (e : ℕ). e) es) 0 ≡ below 1 es
+no_sum es = sum_by-zero (λ (e : ℕ). e) es ∙ all_zeros es
 
 -- A FRAME HAS BEGUN
 
@@ -83,8 +67,8 @@ none_held xs h = ap₂ begun (paste-zero xs h []) (sym (add-zero h))
 
 -- the same row, the first of its elements being held
 
-abbrev short_answer : List ℕ → ℕ → ℕ → RowTaken
-short_answer xs h n = row_taken (begun xs h) 0 n Finished.Nothing
+abbrev short_answer : List ℕ → ℕ → ℕ → Taking
+short_answer xs h n = row_taken (begun xs h) n None
 
 short_more : (xs : List ℕ) (h e : ℕ) (es : List ℕ) → h < length xs
     → behind 1 (short_answer (paste (set xs h e) (h + 1) es (length es)) (h + 1 + length es) (length es)) ≡ short_answer (paste xs h (e ∷ es) (suc (length es))) (h + suc (length es)) (suc (length es))
@@ -96,8 +80,8 @@ short_more xs h e es l =
     ∙ ap (λ (ys : List ℕ). behind 1 (short_answer ys (h + 1 + length es) (length es))) (paste_cons xs h e es (length es) l)
     ∙ ap₂ (short_answer (paste xs h (e ∷ es) (suc (length es)))) a b
 
-abbrev whole_answer : List ℕ → ℕ → RowTaken
-whole_answer ys n = row_taken (searching (eqb (get_or ys 99 0) 2)) 0 n (Finished.Frame (read_frame ys))
+abbrev whole_answer : List ℕ → ℕ → Taking
+whole_answer ys n = row_taken (searching (eqb (get_or ys 99 0) 2)) n (Some (read_frame ys))
 
 whole_more : (xs : List ℕ) (h e : ℕ) (es : List ℕ) (k : ℕ) → h < length xs
     → behind 1 (whole_answer (paste (set xs h e) (h + 1) es (suc k)) (suc k)) ≡ whole_answer (paste xs h (e ∷ es) (suc (suc k))) (suc (suc k))
@@ -114,14 +98,14 @@ whole_last xs h e es l q =
     let i : h < length xs = rw l (let r : h < 100 = omega arith in r) in
     let g : get_or (set xs h e) 99 0 ≡ e = ap (λ (j : ℕ). get_or (set xs h e) j 0) (sym q) ∙ get_or-set_same xs h e 0 i in
     ap (λ (t : Bool). pick t (frame_ends (begun (set xs h e) (h + 1)) e) (behind 1 (one_by_one (begun (set xs h e) (h + 1)) es))) (eq-eqb (h + 1) 100 (omega arith))
-    ∙ ap (λ (x : ℕ). row_taken (searching (eqb x 2)) 0 1 (Finished.Frame (read_frame (set xs h e)))) (sym g)
+    ∙ ap (λ (x : ℕ). row_taken (searching (eqb x 2)) 1 (Some (read_frame (set xs h e)))) (sym g)
     ∙ ap (λ (ys : List ℕ). whole_answer ys 1) (sym (one_held xs h e es i))
 
 -- a row that does not finish the frame
 pub held_short : (es xs : List ℕ) (h : ℕ) → length xs ≡ 100 → (h ≡ 0 → ⊥) → h + length es < 100
-    → one_by_one (begun xs h) es ≡ row_taken (begun (paste xs h es (length es)) (h + length es)) 0 (length es) Finished.Nothing
+    → one_by_one (begun xs h) es ≡ row_taken (begun (paste xs h es (length es)) (h + length es)) (length es) None
 unfolding one_by_one
-held_short [] xs h l z k = ap (λ (s : Stream). row_taken s 0 0 Finished.Nothing) (none_held xs h)
+held_short [] xs h l z k = ap (λ (s : Stream). row_taken s 0 None) (none_held xs h)
 held_short (e ∷ es) xs h l z k =
     step_held xs h e es z
     ∙ ap (λ (t : Bool). pick t (frame_ends (begun (set xs h e) (h + 1)) e) (behind 1 (one_by_one (begun (set xs h e) (h + 1)) es))) (ne_eqb (h + 1) 100 (λ q. omega arith))
@@ -130,7 +114,7 @@ held_short (e ∷ es) xs h l z k =
 
 -- a row that finishes it
 pub held_whole : (k : ℕ) (es xs : List ℕ) (h : ℕ) → length xs ≡ 100 → (h ≡ 0 → ⊥) → h + suc k ≡ 100 → suc k ≤ length es
-    → one_by_one (begun xs h) es ≡ row_taken (searching (eqb (get_or (paste xs h es (suc k)) 99 0) 2)) 0 (suc k) (Finished.Frame (read_frame (paste xs h es (suc k))))
+    → one_by_one (begun xs h) es ≡ row_taken (searching (eqb (get_or (paste xs h es (suc k)) 99 0) 2)) (suc k) (Some (read_frame (paste xs h es (suc k))))
 held_whole k [] xs h l z q m = absurd (omega arith)
 held_whole zero (e ∷ es) xs h l z q m = step_held xs h e es z ∙ whole_last xs h e es l (omega arith)
 held_whole (suc k) (e ∷ es) xs h l z q m =
@@ -154,11 +138,11 @@ module _ (es : List ℕ) (l : 99 ≤ length es) where
   rest_is = drop-cons es 98 0 (omega arith)
 
   -- a frame that has begun ends, and the search goes on from its last element
-  pub ends_whole : one_by_one first_held es ≡ row_taken (searching (eqb (get_or es 98 0) 2)) 0 99 (Finished.Frame (read_frame (2 ∷ es)))
+  pub ends_whole : one_by_one first_held es ≡ row_taken (searching (eqb (get_or es 98 0) 2)) 99 (Some (read_frame (2 ∷ es)))
   ends_whole =
       held_whole 98 es (set (replicate 100 0) 0 2) 1 refl (λ q. omega arith) refl l
-      ∙ ap (λ (ys : List ℕ). row_taken (searching (eqb (get_or ys 99 0) 2)) 0 99 (Finished.Frame (read_frame ys))) (hundred_held es)
-      ∙ ap₂ (λ (x : ℕ) (r : TimeRead). row_taken (searching (eqb x 2)) 0 99 (Finished.Frame r)) last_is same_read
+      ∙ ap (λ (ys : List ℕ). row_taken (searching (eqb (get_or ys 99 0) 2)) 99 (Some (read_frame ys))) (hundred_held es)
+      ∙ ap₂ (λ (x : ℕ) (r : Result Moment Refusal). row_taken (searching (eqb x 2)) 99 (Some r)) last_is same_read
 
 -- A SEARCH
 
@@ -180,48 +164,30 @@ pub step_second : (m : Bool) (e : ℕ) (es : List ℕ) → (m && eqb e 2) ≡ tr
 unfolding one_by_one
 step_second m e es h = ap (λ (s : Stream). pick (eqb s.held 100) (frame_ends s e) (behind 1 (one_by_one s es))) (next_second m e h)
 
-behind_behind : (n : ℕ) (t : RowTaken) → behind 1 (behind n t) ≡ behind (n + 1) t
-behind_behind n t = ap (λ (k : ℕ). row_taken t.stream t.number k t.finished) (let q : 1 + (n + t.taken) ≡ n + 1 + t.taken = omega arith in q)
+behind_behind : (n : ℕ) (t : Taking) → behind 1 (behind n t) ≡ behind (1 + n) t
+behind_behind n t = ap (λ (k : ℕ). row_taken t.stream k t.finished) (let q : 1 + (n + t.taken) ≡ 1 + n + t.taken = omega arith in q)
 
--- it ends with the second of two markers
+-- what comes of a row by a search in it: the second of two markers is held, and others behind it; or the search goes on
+abbrev pub by_search : List ℕ → Searched → Taking
+by_search es (Searched.Found k) = behind k (one_by_one first_held (drop k es))
+by_search es (Searched.Over m) = row_taken (searching m) (length es) None
 
-finds_step : (e : ℕ) (es : List ℕ) (m : Bool) → (searched m (e ∷ es)).found ≡ true → (t : Bool) → (m && eqb e 2) ≡ t
-    → ((searched (eqb e 2) es).found ≡ true → one_by_one (searching (eqb e 2)) es ≡ behind (searched (eqb e 2) es).taken (one_by_one first_held (drop (searched (eqb e 2) es).taken es)))
-    → one_by_one (searching m) (e ∷ es) ≡ behind (searched m (e ∷ es)).taken (one_by_one first_held (drop (searched m (e ∷ es)).taken (e ∷ es)))
-finds_step e es m h true q r =
-    step_second m e es q
-    ∙ ap (λ (n : ℕ). behind n (one_by_one first_held (drop n (e ∷ es)))) (sym (ap (λ (t : Searched). t.taken) (searched_second m e es q)))
-finds_step e es m h false q r =
-    let n : ℕ = (searched (eqb e 2) es).taken in
-    let o : suc n ≡ n + 1 = omega arith in
-    step_search m e es q
-    ∙ ap (behind 1) (r (sym (ap (λ (t : Searched). t.found) (searched_more m e es q)) ∙ h))
-    ∙ behind_behind n (one_by_one first_held (drop n es))
-    ∙ ap (λ (k : ℕ). behind (n + 1) (one_by_one first_held (drop k (e ∷ es)))) o
-    ∙ ap (λ (k : ℕ). behind k (one_by_one first_held (drop k (e ∷ es)))) (sym (ap (λ (t : Searched). t.taken) (searched_more m e es q)))
+by_more : (e : ℕ) (es : List ℕ) (s : Searched) → behind 1 (by_search es s) ≡ by_search (e ∷ es) (further 1 s)
+by_more e es (Searched.Found k) =
+    behind_behind k (one_by_one first_held (drop k es))
+    ∙ ap (λ (j : ℕ). behind (1 + k) (one_by_one first_held (drop j (e ∷ es)))) (let o : suc k ≡ 1 + k = omega arith in o)
+by_more e es (Searched.Over m) = ap (λ (j : ℕ). row_taken (searching m) j None) (let o : 1 + length es ≡ suc (length es) = omega arith in o)
 
-pub search_finds : (es : List ℕ) (m : Bool) → (searched m es).found ≡ true → one_by_one (searching m) es ≡ behind (searched m es).taken (one_by_one first_held (drop (searched m es).taken es))
-search_finds [] m h = clash (sym h ∙ ap (λ (t : Searched). t.found) (searched_none m))
-search_finds (e ∷ es) m h = finds_step e es m h (m && eqb e 2) refl (search_finds es (eqb e 2))
+search_step : (e : ℕ) (es : List ℕ) (m t : Bool) → (m && eqb e 2) ≡ t → one_by_one (searching (eqb e 2)) es ≡ by_search es (searched (eqb e 2) es)
+    → one_by_one (searching m) (e ∷ es) ≡ by_search (e ∷ es) (searched m (e ∷ es))
+search_step e es m true q r = step_second m e es q ∙ ap (by_search (e ∷ es)) (sym (searched_second m e es q))
+search_step e es m false q r =
+    step_search m e es q ∙ ap (behind 1) r ∙ by_more e es (searched (eqb e 2) es) ∙ ap (by_search (e ∷ es)) (sym (searched_more m e es q))
 
--- or with the row
-
-ends_step : (e : ℕ) (es : List ℕ) (m : Bool) → (searched m (e ∷ es)).found ≡ false → (t : Bool) → (m && eqb e 2) ≡ t
-    → ((searched (eqb e 2) es).found ≡ false → one_by_one (searching (eqb e 2)) es ≡ row_taken (searching (searched (eqb e 2) es).marked) 0 (searched (eqb e 2) es).taken Finished.Nothing)
-    → one_by_one (searching m) (e ∷ es) ≡ row_taken (searching (searched m (e ∷ es)).marked) 0 (searched m (e ∷ es)).taken Finished.Nothing
-ends_step e es m h true q r = clash (sym (ap (λ (t : Searched). t.found) (searched_second m e es q)) ∙ h)
-ends_step e es m h false q r =
-    let n : ℕ = (searched (eqb e 2) es).taken in
-    let o : 1 + n ≡ n + 1 = omega arith in
-    step_search m e es q
-    ∙ ap (behind 1) (r (sym (ap (λ (t : Searched). t.found) (searched_more m e es q)) ∙ h))
-    ∙ ap (λ (k : ℕ). row_taken (searching (searched (eqb e 2) es).marked) 0 k Finished.Nothing) o
-    ∙ ap (λ (t : Searched). row_taken (searching t.marked) 0 t.taken Finished.Nothing) (sym (searched_more m e es q))
-
-pub search_ends : (es : List ℕ) (m : Bool) → (searched m es).found ≡ false → one_by_one (searching m) es ≡ row_taken (searching (searched m es).marked) 0 (searched m es).taken Finished.Nothing
+pub search_is : (es : List ℕ) (m : Bool) → one_by_one (searching m) es ≡ by_search es (searched m es)
 unfolding one_by_one
-search_ends [] m h = ap (λ (t : Searched). row_taken (searching t.marked) 0 t.taken Finished.Nothing) (sym (searched_none m))
-search_ends (e ∷ es) m h = ends_step e es m h (m && eqb e 2) refl (search_ends es (eqb e 2))
+search_is [] m = ap (by_search []) (sym (searched_none m))
+search_is (e ∷ es) m = search_step e es m (m && eqb e 2) refl (search_is es (eqb e 2))
 
 -- THE CALL
 
@@ -233,11 +199,11 @@ pub record Begun (xs : List ℕ) (h : ℕ) : Type 0 where
   pub zeros : below 1 (drop h xs) ≡ true
 
 module _ (s : Stream) (row : List ℕ) where
-  pub take_18 : lawful s ≡ false → row_taken s 18 0 Finished.Nothing ≡ take_row s row
+  pub take_18 : lawful s ≡ false → record { after = s; outcome = Err Refusal.Unlawful } ≡ take_row s row
   unfolding take_row
-  take_18 h = simp h
+  take_18 h = simp (h, unlawful_named)
 
-  pub take_lawful : lawful s ≡ true → one_by_one s row ≡ take_row s row
+  pub take_lawful : lawful s ≡ true → done (one_by_one s row) ≡ take_row s row
   unfolding take_row
   take_lawful h = simp h
 
@@ -266,80 +232,99 @@ pub positive : (n : ℕ) → (n ≡ 0 → ⊥) → 0 < n
 positive zero z = absurd (z refl)
 positive (suc n) z = omega arith
 
-module _ (xs row : List ℕ) (h from : ℕ) (l : length xs ≡ 100) (z : 0 < h) (b : h < 100) (w : from ≤ length row) where
-  left_length : length (drop from row) ≡ length row - from
-  left_length = length-drop from row
+-- a part of a row, stored
+pub part_stored : (xs : List ℕ) (h : ℕ) (es : List ℕ) (k : ℕ) → k ≤ length es → paste xs h (take k es) (length (take k es)) ≡ paste xs h es k
+part_stored xs h es k l =
+    let n : length (take k es) ≡ k = length-take-le k es l in
+    ap (paste xs h (take k es)) n ∙ ap (λ (ys : List ℕ). take h xs ++ ys ++ drop (h + k) xs) (take_all k (take k es) (omega arith))
 
-  pub hold_some : length row - from < 100 - h → (ys : List ℕ) → ys ≡ paste xs h (drop from row) (length row - from)
-      → row_taken (begun ys (h + (length row - from))) 0 (length row) Finished.Nothing ≡ behind from (one_by_one (begun xs h) (drop from row))
+-- the rest of a row, as the code cuts it
+pub rest_of : (row : List ℕ) (from : ℕ) → take (length row - from) (drop from row) ≡ drop from row
+rest_of row from = let n : length (drop from row) ≡ length row - from = length-drop from row in take_all (length row - from) (drop from row) (omega arith)
+
+module _ (xs row rest : List ℕ) (h from : ℕ) (r : rest ≡ drop from row) (l : length xs ≡ 100) (z : 0 < h) (b : h < 100) (w : from ≤ length row) where
+  left_length : length rest ≡ length row - from
+  left_length = ap length r ∙ length-drop from row
+
+  abbrev goes_on : List ℕ → Answer Stream RowTaken
+  goes_on es = done (behind from (one_by_one (begun xs h) es))
+
+  pub hold_some : length rest < 100 - h → (ys : List ℕ) → ys ≡ paste xs h rest (length rest) → done (row_taken (begun ys (h + length rest)) (length row) None) ≡ goes_on (drop from row)
   hold_some m ys e =
       let n = left_length in
-      ap₂ (λ (zs : List ℕ) (k : ℕ). row_taken (begun zs (h + (length row - from))) 0 k Finished.Nothing) e (let q : length row ≡ from + (length row - from) = omega arith in q)
-      ∙ ap (λ (k : ℕ). row_taken (begun (paste xs h (drop from row) k) (h + k)) 0 (from + k) Finished.Nothing) (sym n)
-      ∙ ap (behind from) (sym (held_short (drop from row) xs h l (λ q. omega arith) (omega arith)))
+      ap₂ (λ (zs : List ℕ) (k : ℕ). done (row_taken (begun zs (h + length rest)) k None)) e (let q : length row ≡ from + length rest = omega arith in q)
+      ∙ ap (λ (t : Taking). done (behind from t)) (sym (held_short rest xs h l (λ q. omega arith) (omega arith)))
+      ∙ ap goes_on r
 
-  pub hold_length : (ys : List ℕ) → 100 - h ≤ length row - from → ys ≡ paste xs h (drop from row) (100 - h) → length ys ≡ 100
-  hold_length ys m e =
-      let n = left_length in
-      ap length e ∙ length-paste xs h (drop from row) (100 - h) (omega arith) (omega arith) ∙ l
-
-  pub hold_frame : 100 - h ≤ length row - from → (ys : List ℕ) → ys ≡ paste xs h (drop from row) (100 - h) → (time : TimeRead) → time ≡ read_frame ys
-      → (s : Stream) → s ≡ searching (eqb (get_or ys 99 0) 2) → row_taken s 0 (from + (100 - h)) (Finished.Frame time) ≡ behind from (one_by_one (begun xs h) (drop from row))
+  pub hold_frame : 100 - h ≤ length rest → (ys : List ℕ) → ys ≡ paste xs h rest (100 - h) → (time : Result Moment Refusal) → time ≡ read_frame ys
+      → (s : Stream) → s ≡ searching (eqb (get_or ys 99 0) 2) → done (row_taken s (from + (100 - h)) (Some time)) ≡ goes_on (drop from row)
   hold_frame m ys e time t s u =
-      let n = left_length in
       let k : 100 - h ≡ suc (99 - h) = omega arith in
-      ap₂ (λ (r : Stream) (x : TimeRead). row_taken r 0 (from + (100 - h)) (Finished.Frame x)) u t
-      ∙ ap (λ (zs : List ℕ). behind from (whole_answer zs (100 - h))) e
-      ∙ ap (λ (j : ℕ). behind from (whole_answer (paste xs h (drop from row) j) j)) k
-      ∙ ap (behind from) (sym (held_whole (99 - h) (drop from row) xs h l (λ q. omega arith) (omega arith) (omega arith)))
+      ap₂ (λ (r : Stream) (x : Result Moment Refusal). done (row_taken r (from + (100 - h)) (Some x))) u t
+      ∙ ap (λ (zs : List ℕ). done (behind from (whole_answer zs (100 - h)))) e
+      ∙ ap (λ (j : ℕ). done (behind from (whole_answer (paste xs h rest j) j))) k
+      ∙ ap (λ (t : Taking). done (behind from t)) (sym (held_whole (99 - h) rest xs h l (λ q. omega arith) (omega arith) (omega arith)))
+      ∙ ap goes_on r
 
 -- a frame that is whole in the row
 pub begin_whole : (row : List ℕ) (from : ℕ) → 0 < from → get_or row (from - 1) 0 ≡ 2 → from ≤ length row → 99 ≤ length row - from
-    → (time : TimeRead) → time ≡ read_frame (take (from + 99 - (from - 1)) (drop (from - 1) row)) → (s : Stream) → s ≡ searching (eqb (get_or row (from + 98) 0) 2)
-    → row_taken s 0 (from + 99) (Finished.Frame time) ≡ behind from (one_by_one first_held (drop from row))
+    → (time : Result Moment Refusal) → time ≡ read_frame (take (from + 99 - (from - 1)) (drop (from - 1) row)) → (s : Stream) → s ≡ searching (eqb (get_or row (from + 98) 0) 2)
+    → done (row_taken s (from + 99) (Some time)) ≡ done (behind from (one_by_one first_held (drop from row)))
 begin_whole row from z e w l time t s u =
     let n : length (drop from row) ≡ length row - from = length-drop from row in
     let m : length (drop (from - 1) row) ≡ length row - (from - 1) = length-drop (from - 1) row in
     let a : drop (from - 1) row ≡ 2 ∷ drop from row
     = drop-cons row (from - 1) 0 (omega arith) ∙ ap₂ (λ (x k : ℕ). x ∷ drop k row) e (let q : suc (from - 1) ≡ from = omega arith in q) in
-    ap₂ (λ (r : Stream) (x : TimeRead). row_taken r 0 (from + 99) (Finished.Frame x))
+    ap₂ (λ (r : Stream) (x : Result Moment Refusal). done (row_taken r (from + 99) (Some x)))
     (u ∙ ap (λ (x : ℕ). searching (eqb x 2)) (sym (get_or-drop from row 98 0)))
     (t
     ∙ ap (λ (k : ℕ). read_frame (take k (drop (from - 1) row))) (let q : from + 99 - (from - 1) ≡ 100 = omega arith in q)
     ∙ only_hundred (drop (from - 1) row) (omega arith)
     ∙ ap read_frame a)
-    ∙ ap (behind from) (sym (ends_whole (drop from row) (omega arith)))
+    ∙ ap (λ (t : Taking). done (behind from t)) (sym (ends_whole (drop from row) (omega arith)))
+
+behind_none : (t : Taking) → behind 0 t ≡ t
+behind_none t = ap (λ (k : ℕ). row_taken t.stream k t.finished) (let q : 0 + t.taken ≡ t.taken = omega arith in q)
 
 module _ (s : Stream) (row : List ℕ) (h : lawful s ≡ true) where
-  pub take_held : (s.held ≡ 0 → ⊥) → (t : RowTaken) → t ≡ behind 0 (one_by_one (begun s.elements s.held) (drop 0 row)) → t ≡ take_row s row
-  take_held z t e =
+  pub take_held : (s.held ≡ 0 → ⊥) → (a : Answer Stream RowTaken) → a ≡ done (behind 0 (one_by_one (begun s.elements s.held) (drop 0 row))) → a ≡ take_row s row
+  take_held z a e =
       e
-      ∙ ap (λ (r : Stream). behind 0 (one_by_one r row)) (sym (lawful_begun s row h z).0)
-      ∙ ap (λ (k : ℕ). row_taken (one_by_one s row).stream (one_by_one s row).number k (one_by_one s row).finished) (let q : 0 + (one_by_one s row).taken ≡ (one_by_one s row).taken = omega arith in q)
+      ∙ ap (λ (r : Stream). done (behind 0 (one_by_one r row))) (sym (lawful_begun s row h z).0)
+      ∙ ap done (behind_none (one_by_one s row))
       ∙ take_lawful s row h
 
-  module _ (z : s.held ≡ 0) (l : length s.elements ≡ 100) (f : Searched) (e : f ≡ searched s.marked row) where
-    is : s ≡ searching s.marked
-    is = lawful_searching s row h z l
+  -- by a search
+  pub take_searched : s.held ≡ 0 → length s.elements ≡ 100 → (f : Searched) → f ≡ searched s.marked row → (a : Answer Stream RowTaken) → a ≡ done (by_search row f) → a ≡ take_row s row
+  take_searched z l f e a g =
+      g
+      ∙ ap (λ (r : Searched). done (by_search row r)) e
+      ∙ ap done (sym (search_is row s.marked))
+      ∙ ap (λ (u : Stream). done (one_by_one u row)) (sym (lawful_searching s row h z l))
+      ∙ take_lawful s row h
 
-    pub take_second : f.found ≡ true → (t : RowTaken) → t ≡ behind f.taken (one_by_one first_held (drop f.taken row)) → t ≡ take_row s row
-    take_second g t q =
-        q
-        ∙ ap (λ (r : Searched). behind r.taken (one_by_one first_held (drop r.taken row))) e
-        ∙ sym (search_finds row s.marked (sym (ap (λ (r : Searched). r.found) e) ∙ g))
-        ∙ ap (λ (r : Stream). one_by_one r row) (sym is)
-        ∙ take_lawful s row h
+-- a frame that has begun holds some elements and not all
+module _ (s : Stream) (h : lawful s ≡ true) (z : s.held ≡ 0 → ⊥) where
+  pub held_some : 0 < s.held
+  held_some = positive s.held z
 
-    pub take_none : f.found ≡ false → (r : Stream) → r ≡ searching f.marked → row_taken r 0 f.taken Finished.Nothing ≡ take_row s row
-    take_none g r q =
-        ap (λ (u : Stream). row_taken u 0 f.taken Finished.Nothing) q
-        ∙ ap (λ (u : Searched). row_taken (searching u.marked) 0 u.taken Finished.Nothing) e
-        ∙ sym (search_ends row s.marked (sym (ap (λ (u : Searched). u.found) e) ∙ g))
-        ∙ ap (λ (u : Stream). one_by_one u row) (sym is)
-        ∙ take_lawful s row h
+  pub held_few : s.held < 100
+  held_few = (lawful_begun s [] h z).1.few
 
-    -- the search stays within the row, and ends behind a marker
-    pub found_second : f.found ≡ true → (0 < f.taken) × (f.taken ≤ length row) × (get_or row (f.taken - 1) 0 ≡ 2)
-    found_second g =
-        let d = second_is row s.marked (sym (ap (λ (r : Searched). r.found) e) ∙ g) in
-        rw e (d.0, searched_within row s.marked, d.1)
+-- the search stays within the row, and ends behind a marker
+module _ (m : Bool) (row : List ℕ) (f : Searched) (k : ℕ) (e : f ≡ searched m row) (q : f ≡ Searched.Found k) where
+  second : Second row (Searched.Found k)
+  second = subst (Second row) (sym e ∙ q) (second_is row m)
+
+  pub found_some : 0 < k
+  found_some = second.0
+
+  pub found_within : k ≤ length row
+  found_within = second.1
+
+  pub found_marker : get_or row (k - 1) 0 ≡ 2
+  found_marker = second.2
+
+pub ruleset holds = (hold_frame, part_stored, rest_of)
+
+pub ruleset takes = (take_18, take_held, take_searched, held_some, held_few, found_some, found_within, found_marker)

@@ -11,8 +11,12 @@ use lib.Pow.{field, mod-mod-pow, shr-shr}
 use lib.ListN.{length, get_or, drop, set, length-set, length-map}
 use lib.Seq.{ext_get_or, paste, paste-zero, paste-suc, take_all}
 use borrow.Author.Tests.{ne_eqb, lt-ltb, le-ltb}
+use Rattle.std.specs.Prelude.{Ok, Err}
+use Rattle.wire.specs.Numbers.{answered}
+use Rattle.wire.specs.declared.numbers.Refusal.{Refusal}
 use Rattle.wire.specs.Words.{words_of, writable, words_or_zero}
 use Rattle.wire.specs.Time.{hour_of, minute_of, second_of}
+use Rattle.wire.proofs.numbers.Names.{unlawful_named, short_row_named}
 use Rattle.wire.proofs.words.Laws.{in_ranges, writable_day, writable_tick, words_within, hundreds_word, days_and_hours_word, minutes_and_seconds_word}
 use Rattle.wire.proofs.time.Laws.{hour_below, minute_below, second_below}
 use Rattle.clock.proofs.time.Laws.{in_range_lem, days_in_year}
@@ -125,14 +129,14 @@ module _ (day tick : ℕ) (w : writable day tick ≡ true) (ws : List ℕ) (o : 
   e = let d = writable_day day tick w in o ∙ words_within day tick d.0 d.1 (writable_tick day tick w)
 
   -- its words and its seconds
-  abbrev number_of : ℕ
-  number_of = tick / 10000000 * 68719476736 + ((get_or ws 0 0 * 65536 + get_or ws 1 0) * 65536 + get_or ws 2 0)
+  abbrev fields_number : ℕ
+  fields_number = tick / 10000000 * 68719476736 + ((get_or ws 0 0 * 65536 + get_or ws 1 0) * 65536 + get_or ws 2 0)
 
-  number_is : number_of ≡ together (plain day tick)
+  number_is : fields_number ≡ together (plain day tick)
   unfolding together
   number_is = simp (e, hundreds_word day tick, days_and_hours_word day tick, minutes_and_seconds_word day tick) (omega arith)
 
-  pub number_holds : Holds number_of (field_of day tick)
+  pub number_holds : Holds fields_number (field_of day tick)
   number_holds =
       rw number_is
       record {
@@ -140,7 +144,7 @@ module _ (day tick : ℕ) (w : writable day tick ≡ true) (ws : List ℕ) (o : 
         small = together_small (plain day tick) (plain_within day tick w);
       }
 
-  pub number_small : number_of < 9007199254740992
+  pub number_small : fields_number < 9007199254740992
   number_small = number_holds.small
 
 -- THE ROW
@@ -160,21 +164,20 @@ module _ (n : ℕ) (row₀ : List ℕ) where
   pub put_none : Put row₀ 0
   put_none = record { front = paste-zero row₀ 0 elements; same = refl }
 
-  module _ (l : 100 ≤ length row₀) (row : List ℕ) (i : ℕ) (p : Put row i) where
-    -- one more, by the shifts that the code has
-    pub put_more : i < 100 → (ss : List ℕ) → ss ≡ map shift_of table → (e : ℕ) → e ≡ element_at n (get_or ss i 0) → Put (set row i e) (i + 1)
-    put_more k ss is e q =
-        record {
-          front =
-              ap₂ (λ (r : List ℕ) (x : ℕ). set r i x) p.front (q ∙ ap (λ (qs : List ℕ). element_at n (get_or qs i 0)) is ∙ sym (from_map (element_at n) (map shift_of table) 0 i (rw (hundred_of shift_of) k)))
-              ∙ ap (λ (j : ℕ). set (paste row₀ 0 elements i) j (get_or elements i 0)) (sym (zero-add i))
-              ∙ paste-suc row₀ 0 elements i 0 (rw (zero-add i) (let m : i < length row₀ = omega arith in m)) (rw hundred k)
-              ∙ ap (paste row₀ 0 elements) (let s : suc i ≡ i + 1 = omega arith in s);
-          same = length-set row i e ∙ p.same;
-        }
+  -- one more, by the shift that the table has for it
+  pub put_more : (row : List ℕ) (i e : ℕ) → Put row i → 100 ≤ length row₀ → i < 100 → e ≡ element_at n (get_or (map shift_of table) i 0) → Put (set row i e) (i + 1)
+  put_more row i e p l k q =
+      record {
+        front =
+            ap₂ (λ (r : List ℕ) (x : ℕ). set r i x) p.front (q ∙ sym (from_map (element_at n) (map shift_of table) 0 i (rw (hundred_of shift_of) k)))
+            ∙ ap (λ (j : ℕ). set (paste row₀ 0 elements i) j (get_or elements i 0)) (sym (zero-add i))
+            ∙ paste-suc row₀ 0 elements i 0 (rw (zero-add i) (let m : i < length row₀ = omega arith in m)) (rw hundred k)
+            ∙ ap (paste row₀ 0 elements) (let s : suc i ≡ i + 1 = omega arith in s);
+        same = length-set row i e ∙ p.same;
+      }
 
-    pub put_all : i ≡ 100 → row ≡ elements ++ drop 100 row₀
-    put_all e = p.front ∙ ap (paste row₀ 0 elements) e ∙ ap (λ (r : List ℕ). r ++ drop 100 row₀) (take_all 100 elements (rw hundred (le_refl 100)))
+  pub put_all : (row : List ℕ) (i : ℕ) → Put row i → i ≡ 100 → row ≡ elements ++ drop 100 row₀
+  put_all row i p e = p.front ∙ ap (paste row₀ 0 elements) e ∙ ap (λ (r : List ℕ). r ++ drop 100 row₀) (take_all 100 elements (rw hundred (le_refl 100)))
 
 -- THE CALL
 
@@ -186,16 +189,27 @@ time_writable c h =
     in_ranges _ _ t.day_low (let q = t.day_high in omega arith) t.tick
 
 module _ (c : Card) (row : List ℕ) where
-  pub write_18 : lawful c ≡ false → (18 ≡ write_refusal c (length row)) × (row ≡ row_written c row)
-  unfolding write_refusal row_written
-  write_18 h = (simp h, simp h)
+  pub refused_18 : lawful c ≡ false → Err Refusal.Unlawful ≡ answered (write_refusal c (length row)) (tt {0})
+  unfolding write_refusal
+  refused_18 h = simp (h, unlawful_named)
 
-  pub write_14 : lawful c ≡ true → length row < 100 → (14 ≡ write_refusal c (length row)) × (row ≡ row_written c row)
-  unfolding write_refusal row_written
-  write_14 h l = (simp (h, lt-ltb (length row) 100 l), simp (h, lt-ltb (length row) 100 l))
+  pub refused_14 : lawful c ≡ true → length row < 100 → Err Refusal.ShortRow ≡ answered (write_refusal c (length row)) (tt {0})
+  unfolding write_refusal
+  refused_14 h l = simp (h, lt-ltb (length row) 100 l, short_row_named)
 
-  pub write_0 : lawful c ≡ true → 100 ≤ length row → (n : ℕ) → Holds n (field_of c.clock.time.day c.clock.time.tick.ticks)
-      → (now : List ℕ) → now ≡ map (element_at n) (map shift_of table) ++ drop 100 row → (0 ≡ write_refusal c (length row)) × (now ≡ row_written c row)
+  pub not_refused : lawful c ≡ true → 100 ≤ length row → Ok (tt {0}) ≡ answered (write_refusal c (length row)) (tt {0})
+  unfolding write_refusal
+  not_refused h l = simp (h, le-ltb (length row) 100 l)
+
+  pub row_18 : lawful c ≡ false → row ≡ row_written c row
+  unfolding write_refusal row_written
+  row_18 h = simp h
+
+  pub row_14 : lawful c ≡ true → length row < 100 → row ≡ row_written c row
+  unfolding write_refusal row_written
+  row_14 h l = simp (h, lt-ltb (length row) 100 l)
+
+  pub row_0 : (n : ℕ) → lawful c ≡ true → 100 ≤ length row → Holds n (field_of c.clock.time.day c.clock.time.tick.ticks)
+      → map (element_at n) (map shift_of table) ++ drop 100 row ≡ row_written c row
   unfolding write_refusal row_written frame_of
-  write_0 h l n k now e =
-      (simp (h, le-ltb (length row) 100 l), e ∙ ap (λ (r : List ℕ). r ++ drop 100 row) (elements_of n _ k) ∙ sym (simp (h, le-ltb (length row) 100 l)))
+  row_0 n h l k = ap (λ (r : List ℕ). r ++ drop 100 row) (elements_of n _ k) ∙ sym (simp (h, le-ltb (length row) 100 l))

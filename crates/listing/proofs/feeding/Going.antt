@@ -1,20 +1,21 @@
 -- The loop of listing: which lines stand in the row and how many bytes are taken, piece by piece. Assumes nothing.
-use Prim.Native.Nat.{ℕ, zero, suc, ◌+◌, ◌-◌, ◌≤◌, ◌<◌}
-use mathlib.Core.Path.{◌≡◌, refl, sym, ap, ap₂, ◌∙◌}
+use Prim.Native.Nat.{ℕ, suc, ◌+◌, ◌-◌, ◌≤◌, ◌<◌}
+use mathlib.Core.Path.{◌≡◌, refl, sym, ap, ap₂, subst, ◌∙◌}
 use mathlib.Core.Bool.{Bool, true, false}
 use mathlib.Core.List.{List, [], ◌∷◌, ◌++◌, append_assoc, append-nil}
 use mathlib.Core.Logic.{◌⊎◌, inl, inr, ⊎_elim}
 use native.Mathlib.Numerals.{add-one}
 use native.Mathlib.Omega.{arith}
+use Rattle.std.specs.Prelude.{Option, None, Some}
 use lib.Dec.{ltb, leb}
 use lib.ListN.{length, take, drop, length-append, length-drop}
 use lib.Seq.{take-add, drop-drop, take_all}
 use borrow.Author.Tests.{ltb-true, leb-true}
 use Rattle.wire.proofs.digits.Laws.{and_left, and_right}
-use Rattle.listing.specs.Listing.{pieces, rest, answer_of, line, lines, goes_on, takes, placed, PutLine, end_of, next_end, Lined, Going, Lists}
+use Rattle.listing.specs.Listing.{pieces, rest, answer_of, line, lines, goes_on, takes, placed, PutLine, end_of, next_end, Lined, Going, Begins, ListsOn, Lists}
 use Rattle.listing.proofs.lines.Laws.{placed_twice, placed_length, put_none}
 use Rattle.listing.proofs.feeding.Laws.{rest_append, pieces_append, lines_append}
-use Rattle.listing.proofs.feeding.Ends.{Ended, ended}
+use Rattle.listing.proofs.feeding.Ends.{some_none, some_same, Ended, ended}
 
 -- there is a number, and room for a line
 pub goes_number : (n room : ℕ) → goes_on n room ≡ true → n < 18446744073709551615
@@ -105,85 +106,101 @@ module _ (qs : List (List ℕ)) (n : ℕ) (input before : List ℕ) (at : ℕ) (
 
 -- a next piece has room for its line, ends in the input, and is its front
 module _ (n room : ℕ) (xs : List ℕ) where
-  next_by : (t : Bool) → goes_on n room ≡ t → 0 < next_end n room xs → (goes_on n room ≡ true) × (end_of 0 xs ≡ next_end n room xs)
+  next_by : (t : Bool) → goes_on n room ≡ t → (k : ℕ) → next_end n room xs ≡ Some k → (goes_on n room ≡ true) × (end_of 0 xs ≡ Some k)
   unfolding next_end
-  next_by true e h = (e, sym (simp e))
-  next_by false e h = absurd (let z : next_end n room xs ≡ 0 = simp e in omega arith)
+  next_by true e k h = (e, (let q : next_end n room xs ≡ end_of 0 xs = simp e in sym q ∙ h))
+  next_by false e k h = some_none k (let q : next_end n room xs ≡ None = simp e in sym h ∙ q)
 
-  pub next_goes : 0 < next_end n room xs → goes_on n room ≡ true
-  next_goes h = (next_by (goes_on n room) refl h).0
+  pub next_goes : (k : ℕ) → next_end n room xs ≡ Some k → goes_on n room ≡ true
+  next_goes k h = (next_by (goes_on n room) refl k h).0
 
-  pub next_ends : (k : ℕ) → k ≡ next_end n room xs → 0 < k → Ended [] xs k
-  next_ends zero e h = absurd (omega arith)
-  next_ends (suc k) e h = ended [] xs k ((next_by (goes_on n room) refl (omega (arith, e))).1 ∙ sym e)
+  pub next_ends : (k : ℕ) → next_end n room xs ≡ Some k → Ended [] xs k
+  next_ends k h = ended [] xs k (next_by (goes_on n room) refl k h).1
 
-  pub next_within : next_end n room xs ≤ length xs
-  next_within = go (next_end n room xs) refl
-    where
-      go : (k : ℕ) → k ≡ next_end n room xs → next_end n room xs ≤ length xs
-      go zero e = omega arith
-      go (suc k) e = rw (← e) (next_ends (suc k) e (omega arith)).within
+pub begins_next : (xs : List ℕ) (front : Option ℕ) (n : ℕ) (row : List ℕ) (at : ℕ) → at ≤ length row → front ≡ next_end n (length row - at) xs → Begins xs front n row at
+begins_next xs front n row at h e =
+    record {
+      place = h;
+      some = λ k z. (next_ends n (length row - at) xs k (sym e ∙ z)).some;
+      within = λ k z. (next_ends n (length row - at) xs k (sym e ∙ z)).within;
+      goes = λ k z. next_goes n (length row - at) xs k (sym e ∙ z);
+    }
 
--- the first piece is listed, and others behind it
-pub record On (input : List ℕ) (first n : ℕ) (before : List ℕ) (at : ℕ) (now : List ℕ) (m w i k : ℕ) : Type 0 where
-  pub some : 0 < first
+-- the first piece, of `size` bytes, is listed, and others behind it
+pub record On (input : List ℕ) (front : Option ℕ) (n : ℕ) (before : List ℕ) (at : ℕ) (now : List ℕ) (m w i : ℕ) (k : Option ℕ) : Type 0 where
+  pub size : ℕ
+  pub is : front ≡ Some size
   pub behind : ℕ
-  pub taken : i ≡ first + behind
-  pub going : Going (take first input ∷ []) n (drop first input) before at now m w behind
+  pub taken : i ≡ size + behind
+  pub going : Going (take size input ∷ []) n (drop size input) before at now m w behind
   pub next : k ≡ next_end m (length before - w) (drop i input)
 
--- after i bytes, with the next piece of k bytes
-pub record Turn (input : List ℕ) (first n : ℕ) (before : List ℕ) (at : ℕ) (now : List ℕ) (m w i k : ℕ) : Type 0 where
-  pub within : i + k ≤ length input
+-- after i bytes, with the next piece, if there is one
+pub record Turn (input : List ℕ) (front : Option ℕ) (n : ℕ) (before : List ℕ) (at : ℕ) (now : List ℕ) (m w i : ℕ) (k : Option ℕ) : Type 0 where
+  pub within : i ≤ length input
   pub same : length now ≡ length before
-  pub fits : w ≤ length before
-  pub goes : 0 < k → goes_on m (length before - w) ≡ true
-  pub far : ((i ≡ 0) × (k ≡ first) × (m ≡ n) × (w ≡ at) × (now ≡ before)) ⊎ On input first n before at now m w i k
+  pub begins : Begins (drop i input) k m before w
+  pub far : ((i ≡ 0) × (k ≡ front) × (m ≡ n) × (w ≡ at) × (now ≡ before)) ⊎ On input front n before at now m w i k
 
-pub turn_first : (input : List ℕ) (first n : ℕ) (before : List ℕ) (at : ℕ) → first ≤ length input → at ≤ length before → (0 < first → goes_on n (length before - at) ≡ true)
-    → Turn input first n before at before n at 0 first
-turn_first input first n before at f l g = record { within = omega arith; same = refl; fits = l; goes = g; far = inl (refl, refl, refl, refl, refl) }
+pub turn_first : (input : List ℕ) (front : Option ℕ) (n : ℕ) (before : List ℕ) (at : ℕ) → Begins input front n before at → Turn input front n before at before n at 0 front
+turn_first input front n before at b = record { within = omega arith; same = refl; begins = b; far = inl (refl, refl, refl, refl, refl) }
 
-module _ (input : List ℕ) (first n : ℕ) (before : List ℕ) (at : ℕ) (now : List ℕ) (m w i k : ℕ) (t : Turn input first n before at now m w i k) where
-  module _ (h : 0 < k) (a : ℕ) (ea : a ≡ answer_of (take k (drop i input))) (row : List ℕ) (v : ℕ) (put : PutLine now w m a row v) where
-    -- the first piece
-    begins : i ≡ 0 → k ≡ first → m ≡ n → w ≡ at → now ≡ before → Going (take first input ∷ []) n (drop first input) before at row (m + 1) v 0
-    begins ei ek em ew en =
-        let l : Lined n before at before n at [] = lined_none n before at (omega (arith, t.fits)) in
-        going_none (take first input ∷ []) n (drop first input) before at row (m + 1) v
-        (rw em (lined_more n before at before n at [] l (take first input) a (ea ∙ rw (ei, ek) refl) (rw (em, ew) at (t.goes h)) row v (rw (em, ew, en) at put)))
+module _ (input : List ℕ) (front : Option ℕ) (n : ℕ) (before : List ℕ) (at : ℕ) (now : List ℕ) (m w i : ℕ) (k : Option ℕ) (t : Turn input front n before at now m w i k) where
+  module _ (p : ℕ) (h : k ≡ Some p) where
+    pub turn_within : i + p ≤ length input
+    turn_within = omega (arith, t.begins.within p h, length-drop i input, t.within)
 
-    -- one behind it
-    continues : (o : On input first n before at now m w i k) → Going (take first input ∷ []) n (drop first input) before at row (m + 1) v (o.behind + k)
-    continues o =
-        let e : drop i input ≡ drop o.behind (drop first input) = ap (λ (x : ℕ). drop x input) o.taken ∙ sym (drop-drop o.behind first input) in
-        going_more (take first input ∷ []) n (drop first input) before at now m w o.behind o.going k (rw e at (next_ends m (length before - w) (drop i input) k o.next h)) a
-        (ea ∙ ap (λ (xs : List ℕ). answer_of (take k xs)) e) (t.goes h) row v put
+    pub turn_number : m < 18446744073709551615
+    turn_number = goes_number m (length before - w) (t.begins.goes p h)
 
-    turned : 0 < first → (behind : ℕ) → i + k ≡ first + behind → Going (take first input ∷ []) n (drop first input) before at row (m + 1) v behind
-        → (j : ℕ) → j ≡ next_end (m + 1) (length row - v) (drop (i + k) input) → Turn input first n before at row (m + 1) v (i + k) j
-    turned some behind taken going j ej =
-        let same : length row ≡ length before = lined_length n before at row (m + 1) v _ going.lined in
-        let e : j ≡ next_end (m + 1) (length before - v) (drop (i + k) input) = ej ∙ ap (λ (x : ℕ). next_end (m + 1) (x - v) (drop (i + k) input)) same in
-        record {
-          within = omega (arith, e, next_within (m + 1) (length before - v) (drop (i + k) input), length-drop (i + k) input, t.within);
-          same = same;
-          fits = going.lined.fits;
-          goes = λ z. next_goes (m + 1) (length before - v) (drop (i + k) input) (omega (arith, e));
-          far = inr (record { some = some; behind = behind; taken = taken; going = going; next = e });
-        }
+    pub turn_room : w + 25 ≤ length now
+    turn_room = omega (arith, goes_room m (length before - w) (t.begins.goes p h), t.same, t.begins.place)
 
-    pub turn_more : (j : ℕ) → j ≡ next_end (m + 1) (length row - v) (drop (i + k) input) → Turn input first n before at row (m + 1) v (i + k) j
-    turn_more =
-        ⊎_elim
-        (λ b. turned (omega (arith, b.1)) 0 (omega (arith, b.0, b.1)) (begins b.0 b.1 b.2 b.3 b.4))
-        (λ o. turned o.some (o.behind + k) (omega (arith, o.taken)) (continues o))
-        t.far
+    module _ (a : ℕ) (ea : a ≡ answer_of (take p (drop i input))) (row : List ℕ) (v : ℕ) (put : PutLine now w m a row v) where
+      -- the first piece
+      begun : i ≡ 0 → m ≡ n → w ≡ at → now ≡ before → Going (take p input ∷ []) n (drop p input) before at row (m + 1) v 0
+      begun ei em ew en =
+          let l : Lined n before at before n at [] = lined_none n before at (omega (arith, t.begins.place)) in
+          going_none (take p input ∷ []) n (drop p input) before at row (m + 1) v
+          (rw em
+          (lined_more n before at before n at [] l (take p input) a (ea ∙ ap (λ (x : ℕ). answer_of (take p (drop x input))) ei) (rw (em, ew) at (t.begins.goes p h)) row v
+          (rw (em, ew, en) at put)))
+
+      -- one behind it
+      continues : (o : On input front n before at now m w i k) → Going (take o.size input ∷ []) n (drop o.size input) before at row (m + 1) v (o.behind + p)
+      continues o =
+          let e : drop i input ≡ drop o.behind (drop o.size input) = ap (λ (x : ℕ). drop x input) o.taken ∙ sym (drop-drop o.behind o.size input) in
+          going_more (take o.size input ∷ []) n (drop o.size input) before at now m w o.behind o.going p (rw e at (next_ends m (length before - w) (drop i input) p (sym o.next ∙ h))) a
+          (ea ∙ ap (λ (xs : List ℕ). answer_of (take p xs)) e) (t.begins.goes p h) row v put
+
+      turned : (size behind : ℕ) → front ≡ Some size → i + p ≡ size + behind → Going (take size input ∷ []) n (drop size input) before at row (m + 1) v behind
+          → (j : Option ℕ) → j ≡ next_end (m + 1) (length row - v) (drop (i + p) input) → Turn input front n before at row (m + 1) v (i + p) j
+      turned size behind is taken going j ej =
+          let same : length row ≡ length before = lined_length n before at row (m + 1) v _ going.lined in
+          let e : j ≡ next_end (m + 1) (length before - v) (drop (i + p) input) = ej ∙ ap (λ (x : ℕ). next_end (m + 1) (x - v) (drop (i + p) input)) same in
+          record {
+            within = turn_within;
+            same = same;
+            begins = begins_next (drop (i + p) input) j (m + 1) before v going.lined.fits e;
+            far = inr (record { size = size; is = is; behind = behind; taken = taken; going = going; next = e });
+          }
+
+      pub turn_more : (j : Option ℕ) → j ≡ next_end (m + 1) (length row - v) (drop (i + p) input) → Turn input front n before at row (m + 1) v (i + p) j
+      turn_more =
+          ⊎_elim
+          (λ b. turned p 0 (sym b.1 ∙ h) (omega (arith, b.0)) (begun b.0 b.2 b.3 b.4))
+          (λ o. turned o.size (o.behind + p) o.is (omega (arith, o.taken)) (continues o))
+          t.far
 
   -- no next piece
-  pub turn_last : k ≤ 0 → Lists input first n before at now (record { taken = i; number = m; written = w })
+  pub turn_last : k ≡ None → Lists input front n before at now (record { taken = i; number = m; written = w })
   turn_last z =
       record {
-        none = λ f. ⊎_elim (λ b. (b.4, rw (b.0, b.2, b.3) refl)) (λ o. absurd (omega (arith, o.some))) t.far;
-        some = λ h. ⊎_elim (λ b. absurd (omega (arith, b.1))) (λ o. record { behind = o.behind; taken = o.taken; going = o.going; over = ap (λ (x : ℕ). next_end m (length before - w) (drop x input)) (sym o.taken) ∙ sym o.next ∙ (let e : k ≡ 0 = omega arith in e) }) t.far;
+        none = λ f. ⊎_elim (λ b. (b.4, rw (b.0, b.2, b.3) refl)) (λ o. some_none o.size (sym o.is ∙ f)) t.far;
+        some = λ s f.
+            ⊎_elim
+            (λ b. some_none s (sym f ∙ sym b.1 ∙ z))
+            (λ o. subst (λ (x : ℕ). ListsOn input x n before at now (record { taken = i; number = m; written = w })) (some_same o.size s (sym o.is ∙ f))
+            (record { behind = o.behind; taken = o.taken; going = o.going; over = ap (λ (x : ℕ). next_end m (length before - w) (drop x input)) (sym o.taken) ∙ sym o.next ∙ z }))
+            t.far;
       }

@@ -6,6 +6,7 @@ use mathlib.Core.List.{List, [], ◌∷◌, ◌++◌, append-nil}
 use mathlib.Core.Logic.{⊎_elim}
 use native.Mathlib.Nat.{zero-add}
 use native.Mathlib.Omega.{arith}
+use Rattle.std.specs.Prelude.{Option, None, Some}
 use lib.Dec.{leb}
 use lib.ListN.{length, take, drop, length-append, length-drop, length-take, take-append-drop, drop_of_length-le, replicate}
 use lib.Seq.{take-add, drop-drop, length-take-le, take_all, take-nil}
@@ -36,21 +37,21 @@ use Rattle.listing.proofs.feeding.Going.{lined_none, lined_length, going_none, n
 -- as far as listing came, and no next piece
 pub record Stopped (n : ℕ) (input before : List ℕ) (at : ℕ) (after : List ℕ) (m w i : ℕ) : Type 0 where
   pub going : Going [] n input before at after m w i
-  pub over : next_end m (length before - w) (drop i input) ≡ 0
+  pub over : next_end m (length before - w) (drop i input) ≡ None
 
-module _ (input : List ℕ) (k n : ℕ) (before : List ℕ) (at : ℕ) (after : List ℕ) (r : Reached) (s : Lists input k n before at after r)
-    (e : k ≡ next_end n (length before - at) input) (h : at ≤ length before) where
-  none_listed : k ≡ 0 → Stopped n input before at after r.number r.written r.taken
+module _ (input : List ℕ) (front : Option ℕ) (n : ℕ) (before : List ℕ) (at : ℕ) (after : List ℕ) (r : Reached) (s : Lists input front n before at after r)
+    (e : front ≡ next_end n (length before - at) input) (h : at ≤ length before) where
+  none_listed : front ≡ None → Stopped n input before at after r.number r.written r.taken
   none_listed z =
       let a = s.none z in
       rw (a.0, a.1) (record { going = going_none [] n input before at before n at (lined_none n before at h); over = sym e ∙ z })
 
-  module _ (z : 0 < k) where
+  module _ (k : ℕ) (z : front ≡ Some k) where
     u : Ended [] input k
-    u = next_ends n (length before - at) input k e z
+    u = next_ends n (length before - at) input k (sym e ∙ z)
 
     abbrev l : ListsOn input k n before at after r
-    l = s.some z
+    l = s.some k z
 
     some_listed : Stopped n input before at after r.number r.written (k + l.behind)
     unfolding lines
@@ -58,7 +59,7 @@ module _ (input : List ℕ) (k n : ℕ) (before : List ℕ) (at : ℕ) (after : 
         let p = take k input in
         let c : pieces [] (take (k + l.behind) input) ≡ p ∷ pieces [] (take l.behind (drop k input)) =
         ap (pieces []) (take-add k l.behind input) ∙ pieces_append [] p (take l.behind (drop k input)) ∙ ap₂ (λ (ps : List (List ℕ)) (held : List ℕ). ps ++ pieces held (take l.behind (drop k input))) u.pieces u.rest in
-        let g : goes_on n (length before - at) ≡ true = next_goes n (length before - at) input (omega (arith, e)) in
+        let g : goes_on n (length before - at) ≡ true = next_goes n (length before - at) input k (sym e ∙ z) in
         let t = takes [] r.number (length before - r.written) (drop (k + l.behind) input) in
         record {
           going = record {
@@ -77,8 +78,11 @@ module _ (input : List ℕ) (k n : ℕ) (before : List ℕ) (at : ℕ) (after : 
         }
 
   pub listed : Stopped n input before at after r.number r.written r.taken
-  listed =
-      ⊎_elim (λ (z : 0 < k). rw (s.some z).taken (some_listed z)) (λ (z : k ≤ 0). none_listed (omega arith)) (lt_or_le 0 k)
+  listed = by_front front refl
+    where
+      by_front : (o : Option ℕ) → front ≡ o → Stopped n input before at after r.number r.written r.taken
+      by_front None z = none_listed z
+      by_front (Some k) z = rw (s.some k z).taken (some_listed k z)
 
 abbrev answered : Queue → ℕ → ℕ → ℕ → Fed
 answered q n t w = record { bench = record { queue = q; number = n }; taken = t; written = w }
@@ -145,11 +149,6 @@ module _ (n : ℕ) (input before : List ℕ) (at : ℕ) (after : List ℕ) (m w 
 take_within : (t : ℕ) (xs : List ℕ) → length (take t xs) ≤ length xs
 take_within t xs = simp length-take (omega arith)
 
-pub whole_within : (n : ℕ) (input before : List ℕ) (at : ℕ) (after : List ℕ) (r : Fed) → FeedsWhole n input before at after r → r.taken ≤ length input
-whole_within n input before at after r f =
-    let e : r.taken ≡ length f.part = ap (λ (x : Fed). x.taken) f.answer in
-    omega (arith, ap length f.taken, take_within (takes [] n (length before - at) input) input)
-
 -- BEHIND BYTES THAT ARE HELD
 
 -- lines behind lines
@@ -196,7 +195,7 @@ module _ (b : Bench) (input before after : List ℕ) (r : Fed) where
         (rw ea (lined_none n before 0 (omega arith))) refl er
 
     -- all bytes join the ones held
-    pub held_more : after ≡ before → goes_on n (length before) ≡ true → end_of (length held) input ≡ 0 → (d : Card) → d ≡ fed c input → below 256 input ≡ true
+    pub held_more : after ≡ before → goes_on n (length before) ≡ true → end_of (length held) input ≡ None → (d : Card) → d ≡ fed c input → below 256 input ≡ true
         → r ≡ answered d.queue n (length input) 0 → Feeds b input before after r
     held_more ea go en d ed small er =
         let u : Unended held input = unended held input en in
@@ -232,20 +231,21 @@ module _ (b : Bench) (input before after : List ℕ) (r : Fed) where
 -- THE LAST REST
 
 -- the bytes of a queue, as one piece
-pub held_listed : (q : Queue) (n : ℕ) (before after : List ℕ) (r : Reached) (bs : List ℕ) → bs ≡ queued q → length bs ≡ q.fill → Lists bs q.fill n before 0 after r → ListsHeld q n before after r
+pub held_listed : (q : Queue) (n : ℕ) (before after : List ℕ) (r : Reached) → length (queued q) ≡ q.fill → (front : Option ℕ) → (q.fill ≡ 0 → front ≡ None) → (0 < q.fill → front ≡ Some q.fill)
+    → Lists (queued q) front n before 0 after r → ListsHeld q n before after r
 unfolding pieces
-held_listed q n before after r bs e h s =
+held_listed q n before after r h front fn fs s =
     record {
-      count = ap length (sym e) ∙ h;
-      taken = ⊎_elim (λ (z : 0 < q.fill). let l = s.some z in omega (arith, l.taken, l.going.within, length-drop q.fill bs))
-          (λ (z : q.fill ≤ 0). let e : r.taken ≡ 0 = ap (λ (x : Reached). x.taken) (s.none (omega arith)).1 in omega arith) (lt_or_le 0 q.fill);
-      none = s.none;
+      count = h;
+      taken = ⊎_elim (λ (z : 0 < q.fill). let l = s.some q.fill (fs z) in omega (arith, l.taken, l.going.within, length-drop q.fill (queued q)))
+          (λ (z : q.fill ≤ 0). let e : r.taken ≡ 0 = ap (λ (x : Reached). x.taken) (s.none (fn (omega arith))).1 in omega arith) (lt_or_le 0 q.fill);
+      none = λ z. s.none (fn z);
       some = λ z.
-          let l = s.some z in
-          let d : pieces [] (take l.behind (drop q.fill bs)) ≡ [] =
-          ap (λ (xs : List ℕ). pieces [] (take l.behind xs)) (drop_of_length-le bs (let q : length bs ≤ q.fill = omega arith in q)) ∙ ap (pieces []) (take-nil l.behind) in
-          let f : take q.fill bs ≡ queued q = take_all q.fill bs (omega arith) ∙ e in
-          let g : (take q.fill bs ∷ []) ++ pieces [] (take l.behind (drop q.fill bs)) ≡ queued q ∷ [] = ap₂ (λ (p : List ℕ) (ps : List (List ℕ)). (p ∷ []) ++ ps) f d in
+          let l = s.some q.fill (fs z) in
+          let d : pieces [] (take l.behind (drop q.fill (queued q))) ≡ [] =
+          ap (λ (xs : List ℕ). pieces [] (take l.behind xs)) (drop_of_length-le (queued q) (let x : length (queued q) ≤ q.fill = omega arith in x)) ∙ ap (pieces []) (take-nil l.behind) in
+          let f : take q.fill (queued q) ≡ queued q = take_all q.fill (queued q) (omega arith) in
+          let g : (take q.fill (queued q) ∷ []) ++ pieces [] (take l.behind (drop q.fill (queued q))) ≡ queued q ∷ [] = ap₂ (λ (p : List ℕ) (ps : List (List ℕ)). (p ∷ []) ++ ps) f d in
           rw g at l.going.lined;
     }
 

@@ -1,19 +1,19 @@
 -- Counting: a number's twenty digits by division, the first of them that is written, and the next number's digits by a carry.
 -- By induction on digits. Assumes nothing.
-use Prim.Native.Nat.{ℕ, zero, suc, ◌+◌, ◌*◌, ◌-◌, ◌/◌, ◌%◌, ◌^◌, ◌≤◌, ◌<◌}
+use Prim.Native.Nat.{ℕ, zero, suc, ◌+◌, ◌*◌, ◌-◌, ◌/◌, ◌%◌, ◌^◌, ◌≤◌, ◌<◌, min}
 use mathlib.Core.Path.{◌≡◌, refl, sym, ap, ap₂, ◌∙◌}
 use mathlib.Core.Logic.{⊎_elim}
 use mathlib.Core.Bool.{true}
 use mathlib.Core.List.{List, [], ◌∷◌, ◌++◌, append_assoc}
 use native.Mathlib.Nat.{pow-suc, div-div-eq-div-mul, div-one, suc-mul}
 use native.Mathlib.Omega.{arith}
-use lib.ListN.{length, take, drop, get_or, set, replicate, length-append, length-set, length-replicate, drop_of_length-le, replicate-append-replicate, get_or-append}
-use lib.Seq.{take-suc, set_at, take_at, take-take, take-append-le, get_or_at, length-take-le, split_at}
+use lib.ListN.{length, take, drop, get_or, set, replicate, length-append, length-drop, length-set, length-replicate, take-append-drop, drop_of_length-le, replicate-append-replicate, get_or-append}
+use lib.Seq.{set_at, take_at, take-take, take_all, take-append-le, get_or_at, length-take-le, split_at}
 use borrow.Author.Tests.{ne_eqb, lt-ltb}
 use Rattle.wire.specs.Digits.{digits, num, below}
 use Rattle.wire.specs.Packets.{ascii}
-use Rattle.wire.proofs.digits.Laws.{lt_or_le, and_left, below_at, below_both, below_append, below_more, zeros_below, digits_length, digits_below, written, read, num_append}
-use Rattle.listing.specs.Listing.{trimmed, in_decimal, all_nines, First, Spelled, PutLine}
+use Rattle.wire.proofs.digits.Laws.{lt_or_le, and_left, and_right, below_at, below_both, below_append, below_more, zeros_below, digits_length, digits_below, written, read, num_append}
+use Rattle.listing.specs.Listing.{trimmed, in_decimal, all_nines, First, Spelled}
 
 -- zeros with one more behind them
 zeros_more : (k : ℕ) → ◌++◌ {A = ℕ} (replicate k 0) (0 ∷ []) ≡ replicate (suc k) 0
@@ -57,16 +57,7 @@ divided_all n ds i left d h =
     d.row
     ∙ ap₂ (λ (x y : ℕ). replicate x 0 ++ digits 10 y n) (let e : i ≡ 0 = omega arith in e) (let e : d.found ≡ 20 = omega (arith, d.sum) in e)
 
--- THE FIRST DIGIT THAT IS WRITTEN
-
-pub one_more_zero : (ds : List ℕ) (i : ℕ) → i < length ds → take i ds ≡ replicate i 0 → get_or ds i 0 ≡ 0 → take (i + 1) ds ≡ replicate (i + 1) 0
-one_more_zero ds i h z e =
-    let s : i + 1 ≡ suc i = omega arith in
-    ap (λ (x : ℕ). take x ds) s
-    ∙ take-suc ds i 0 h
-    ∙ ap₂ (λ (l : List ℕ) (x : ℕ). l ++ (x ∷ [])) z e
-    ∙ zeros_more i
-    ∙ ap (λ (x : ℕ). replicate x 0) (sym s)
+-- THE DIGITS THAT ARE WRITTEN
 
 trimmed_at : (ds : List ℕ) (first : ℕ) → first < length ds → take first ds ≡ replicate first 0 → (suc first < length ds → 0 < get_or ds first 0) → trimmed ds ≡ drop first ds
 unfolding trimmed
@@ -85,13 +76,33 @@ spelled_digits : (n : ℕ) (ds : List ℕ) (first : ℕ) → Spelled n ds first 
 spelled_digits n ds first s =
     sym (read 10 (omega arith) ds s.each) ∙ ap₂ (λ (k m : ℕ). digits 10 k m) s.count s.number
 
--- a number's digits from the first on are the number in decimal
-pub spelled_decimal : (n : ℕ) (ds : List ℕ) (first : ℕ) → Spelled n ds first → in_decimal n ≡ ascii (drop first ds)
-unfolding in_decimal
-spelled_decimal n ds first s =
-    ap ascii
-    (ap trimmed (sym (spelled_digits n ds first s))
-    ∙ trimmed_at ds first (omega (arith, s.count, s.place.within)) s.place.zeros (λ h. s.place.some (omega (arith, s.count))))
+-- the digits that are written, as they are lent
+abbrev pub written_digits : List ℕ → ℕ → List ℕ
+written_digits ds first = take (20 - first) (drop first ds)
+
+module _ (n : ℕ) (ds : List ℕ) (first : ℕ) (s : Spelled n ds first) where
+  written_is : written_digits ds first ≡ drop first ds
+  written_is = take_all (20 - first) (drop first ds) (omega (arith, length-drop first ds, s.count))
+
+  pub written_count : length (written_digits ds first) ≤ 20
+  written_count = omega (arith, ap length written_is, length-drop first ds, s.count)
+
+  -- they are the number in decimal
+  pub written_decimal : in_decimal n ≡ ascii (written_digits ds first)
+  unfolding in_decimal
+  written_decimal =
+      ap ascii
+      (ap trimmed (sym (spelled_digits n ds first s))
+      ∙ trimmed_at ds first (omega (arith, s.count, s.place.within)) s.place.zeros (λ h. s.place.some (omega (arith, s.count)))
+      ∙ sym written_is)
+
+  -- and each is below ten
+  pub written_below : (k : ℕ) → k < length (written_digits ds first) → get_or (written_digits ds first) k 0 < 10
+  written_below =
+      below_at 10 (written_digits ds first)
+      (ap (below 10) written_is
+      ∙ and_right (below 10 (take first ds)) (below 10 (drop first ds))
+      (sym (below_both 10 (take first ds) (drop first ds)) ∙ ap (below 10) (take-append-drop first ds) ∙ s.each))
 
 -- CARRYING
 
@@ -236,7 +247,7 @@ module _ (before now : List ℕ) (first i n : ℕ) (s : Spelled n before first) 
   more_at = ap (λ (l : List ℕ). get_or l i 0) stored ∙ get_or_at c.front (suc c.digit) (replicate c.nines 0) 0 i c.place
 
   -- the number has a digit more
-  pub counted_before : i < first → Spelled (suc n) (set now i (get_or now i 0 + 1)) i
+  counted_before : i < first → Spelled (suc n) (set now i (get_or now i 0 + 1)) i
   counted_before h =
       spelled_next i
       (record {
@@ -258,7 +269,7 @@ module _ (before now : List ℕ) (first i n : ℕ) (s : Spelled n before first) 
       ∙ sym (ap (λ (l : List ℕ). get_or l first 0) c.was ∙ get_or-append c.front (c.digit ∷ replicate c.nines 9) 0 first (omega (arith, c.place)))
 
   -- or as many as before
-  pub counted_within : first ≤ i → Spelled (suc n) (set now i (get_or now i 0 + 1)) first
+  counted_within : first ≤ i → Spelled (suc n) (set now i (get_or now i 0 + 1)) first
   counted_within h =
       spelled_next first
       (record {
@@ -277,6 +288,13 @@ module _ (before now : List ℕ) (first i n : ℕ) (s : Spelled n before first) 
             (lt_or_le first i);
       })
 
+  pub counted : (r : ℕ) → r ≡ min first i → Spelled (suc n) (set now i (get_or now i 0 + 1)) r
+  counted r e =
+      ⊎_elim
+      (λ b. let q : r ≡ i = omega arith in rw q (counted_before b))
+      (λ b. let q : r ≡ first = omega arith in rw q (counted_within b))
+      (lt_or_le i first)
+
 -- FOR A CALLER THAT COUNTS
 
 pub found_count : (n : ℕ) (ds : List ℕ) → ds ≡ digits 10 20 n → length ds ≡ 20
@@ -292,18 +310,6 @@ begun n ds first h e f =
       place = f;
     }
 
-module _ (n : ℕ) (ds : List ℕ) (first : ℕ) (s : Spelled n ds first) where
-  -- digits that spell a number spell the one that they write
-  pub own : Spelled (num 10 ds) ds first
-  own = rw (← s.number) at s
-
-  pub not_all_nines : n < 18446744073709551615 → num 10 ds < all_nines
-  not_all_nines h = omega (arith, s.number)
-
-  -- counted up, they spell the next
-  pub next : (es : List ℕ) (r : ℕ) → Spelled (suc (num 10 ds)) es r → Spelled (suc n) es r
-  next es r t = rw s.number at t
-
-  -- and their line is that of the number
-  pub lined : (before : List ℕ) (at answer : ℕ) (after : List ℕ) (r : ℕ) → PutLine before at (num 10 ds) answer after r → PutLine before at n answer after r
-  lined before at answer after r t = rw s.number at t
+-- digits that spell a number spell the one that they write
+pub own : (n : ℕ) (ds : List ℕ) (first : ℕ) → Spelled n ds first → Spelled (num 10 ds) ds first
+own n ds first s = rw (← s.number) at s

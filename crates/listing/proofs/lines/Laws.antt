@@ -1,6 +1,6 @@
 -- Lines: a number in decimal, and texts put one behind the other.
 -- By induction on the number of digits. Assumes nothing.
-use Prim.Native.Nat.{ℕ, zero, suc, ◌+◌, ◌*◌, ◌-◌, ◌/◌, ◌%◌, ◌^◌, ◌≤◌, ◌<◌}
+use Prim.Native.Nat.{ℕ, zero, suc, ◌+◌, ◌*◌, ◌/◌, ◌%◌, ◌^◌, ◌≤◌, ◌<◌}
 use mathlib.Core.Path.{◌≡◌, refl, sym, ap, ap₂, ◌∙◌}
 use mathlib.Core.Bool.{Bool, true, false}
 use mathlib.Core.List.{List, [], ◌∷◌, ◌++◌, append_assoc}
@@ -8,8 +8,8 @@ use native.Mathlib.Nat.{pow-suc, one-le-pow, pow-le-pow_right, div-eq_of_lt, div
 use native.Mathlib.Numerals.{add-one}
 use native.Mathlib.Omega.{arith}
 use lib.Dec.{eqb}
-use lib.ListN.{length, take, drop, get_or, set, length-append, length-drop, length-set, take-append-drop}
-use lib.Seq.{take_all, take-suc, get_or-drop, take_at, drop_at, drop-drop, length-take-le, set_split}
+use lib.ListN.{length, take, drop, get_or, set, length-append, length-drop, take-append-drop}
+use lib.Seq.{take_all, take-suc, take_at, drop_at, drop-drop, length-take-le, set_split}
 use borrow.Author.Tests.{ne_eqb}
 use Rattle.wire.specs.Digits.{pick, digits}
 use Rattle.wire.specs.Packets.{ascii}
@@ -135,24 +135,9 @@ put_twice a b c at r q s t x y h =
       behind = omega (arith, y.behind, x.behind, length-append s t);
     }
 
--- bytes stored one behind the other
+-- a byte stored
 pub stored_one : (row : List ℕ) (at x : ℕ) → at < length row → Put row at (x ∷ []) (set row at x) (at + 1)
 stored_one row at x h = record { row = placed_byte row at x h; behind = refl }
-
-pub stored_two : (row : List ℕ) (at x y : ℕ) → at + 2 ≤ length row → Put row at (x ∷ y ∷ []) (set (set row at x) (at + 1) y) (at + 2)
-stored_two row at x y h =
-    let z : at + 1 + 1 ≡ at + 2 = omega arith in
-    rw z at
-    (put_twice row (set row at x) (set (set row at x) (at + 1) y) at (at + 1) (at + 1 + 1) (x ∷ []) (y ∷ []) (stored_one row at x (omega arith))
-    (stored_one (set row at x) (at + 1) y (omega (arith, length-set row at x))) (omega arith))
-
-pub stored_three : (row : List ℕ) (at x y z : ℕ) → at + 3 ≤ length row → Put row at (x ∷ y ∷ z ∷ []) (set (set (set row at x) (at + 1) y) (at + 2) z) (at + 3)
-stored_three row at x y z h =
-    let two = set (set row at x) (at + 1) y in
-    let e : at + 2 + 1 ≡ at + 3 = omega arith in
-    rw e at
-    (put_twice row two (set two (at + 2) z) at (at + 2) (at + 2 + 1) (x ∷ y ∷ []) (z ∷ []) (stored_two row at x y (omega arith))
-    (stored_one two (at + 2) z (omega (arith, length-set row at x, length-set (set row at x) (at + 1) y))) (omega arith))
 
 -- DIGITS IN A ROW
 
@@ -161,69 +146,42 @@ unfolding ascii
 ascii_append [] es = refl
 ascii_append (d ∷ ds) es = ap (λ (l : List ℕ). (48 + d) ∷ l) (ascii_append ds es)
 
--- the digits from place `first` up to place i are put
-pub record Copied (ds : List ℕ) (first : ℕ) (before : List ℕ) (at : ℕ) (now : List ℕ) (i to : ℕ) : Type 0 where
-  pub done : ℕ
-  pub sum : first + done ≡ i
-  pub count : length ds ≡ 20
-  pub few : i ≤ 20
-  pub fits : at + length (drop first ds) ≤ length before
-  pub put : Put before at (ascii (take done (drop first ds))) now to
+-- the first k digits are put
+pub record Copied (ds before : List ℕ) (at : ℕ) (now : List ℕ) (k to : ℕ) : Type 0 where
+  pub fits : at + length ds ≤ length before
+  pub put : Put before at (ascii (take k ds)) now to
 
-module _ (ds : List ℕ) (first : ℕ) (before : List ℕ) (at : ℕ) where
-  pub copied_none : length ds ≡ 20 → first ≤ 20 → at + length (drop first ds) ≤ length before → Copied ds first before at before first at
+module _ (ds before : List ℕ) (at : ℕ) where
+  pub copied_none : at + length ds ≤ length before → Copied ds before at before 0 at
   unfolding ascii
-  copied_none l f h =
-      record {
-        done = 0;
-        sum = omega arith;
-        count = l;
-        few = f;
-        fits = h;
-        put = record { row = sym (put_none before at); behind = omega arith };
-      }
+  copied_none h = record { fits = h; put = record { row = sym (put_none before at); behind = omega arith } }
 
-  module _ (now : List ℕ) (i to : ℕ) (c : Copied ds first before at now i to) where
-    text_length : length (ascii (take c.done (drop first ds))) ≡ c.done
-    text_length =
-        ascii_length (take c.done (drop first ds))
-        ∙ length-take-le c.done (drop first ds) (omega (arith, length-drop first ds, c.count, c.few, c.sum))
+  module _ (now : List ℕ) (k to : ℕ) (c : Copied ds before at now k to) (h : k ≤ length ds) where
+    text_length : length (ascii (take k ds)) ≡ k
+    text_length = ascii_length (take k ds) ∙ length-take-le k ds h
 
-    pub copied_place : to + (20 - i) ≤ length before
-    copied_place = omega (arith, text_length, c.put.behind, length-drop first ds, c.count, c.few, c.sum, c.fits)
+    pub copied_place : to ≡ at + k
+    copied_place = omega (arith, text_length, c.put.behind)
 
     pub copied_length : length now ≡ length before
-    copied_length =
-        ap length c.put.row
-        ∙ placed_length before at (ascii (take c.done (drop first ds))) (omega (arith, text_length, length-drop first ds, c.count, c.few, c.sum, c.fits))
+    copied_length = ap length c.put.row ∙ placed_length before at (ascii (take k ds)) (omega (arith, text_length, c.fits))
 
-    pub copied_more : i < 20 → Copied ds first before at (set now to (48 + get_or ds i 0)) (i + 1) (to + 1)
+    pub copied_more : k < length ds → Copied ds before at (set now to (48 + get_or ds k 0)) (k + 1) (to + 1)
     unfolding ascii
-    copied_more h =
-        let k = c.done in
-        let rest = drop first ds in
-        let size : length rest ≡ 20 - first = omega (arith, length-drop first ds, c.count) in
-        let byte = stored_one now to (48 + get_or ds i 0) (omega (arith, copied_place, copied_length)) in
-        let digit : get_or rest k 0 ≡ get_or ds i 0 = get_or-drop first ds k 0 ∙ ap (λ (x : ℕ). get_or ds x 0) c.sum in
-        let one_more : ascii (take k rest) ++ ((48 + get_or ds i 0) ∷ []) ≡ ascii (take (suc k) rest) =
-        ap (λ (x : ℕ). ascii (take k rest) ++ ((48 + x) ∷ [])) (sym digit)
-        ∙ sym (ap ascii (take-suc rest k 0 (omega (arith, c.sum))) ∙ ascii_append (take k rest) (get_or rest k 0 ∷ [])) in
+    copied_more l =
+        let byte = stored_one now to (48 + get_or ds k 0) (omega (arith, copied_place, copied_length, c.fits)) in
+        let one_more : ascii (take k ds) ++ ((48 + get_or ds k 0) ∷ []) ≡ ascii (take (k + 1) ds) =
+        sym (ap (λ (x : ℕ). ascii (take x ds)) (add-one k) ∙ ap ascii (take-suc ds k 0 l) ∙ ascii_append (take k ds) (get_or ds k 0 ∷ [])) in
         record {
-          done = suc k;
-          sum = omega (arith, c.sum);
-          count = c.count;
-          few = omega arith;
           fits = c.fits;
           put =
               rw one_more at
-              (put_twice before now (set now to (48 + get_or ds i 0)) at to (to + 1) (ascii (take k rest)) ((48 + get_or ds i 0) ∷ []) c.put byte
-              (omega (arith, text_length, c.sum, c.fits)));
+              (put_twice before now (set now to (48 + get_or ds k 0)) at to (to + 1) (ascii (take k ds)) ((48 + get_or ds k 0) ∷ []) c.put byte
+              (omega (arith, text_length, c.fits)));
         }
 
-    pub copied_all : 20 ≤ i → Put before at (ascii (drop first ds)) now to
-    copied_all h =
-        let all : take c.done (drop first ds) ≡ drop first ds = take_all c.done (drop first ds) (omega (arith, length-drop first ds, c.count, c.sum)) in
-        rw all at c.put
+    pub copied_all : length ds ≤ k → Put before at (ascii ds) now to
+    copied_all l = rw (take_all k ds l) at c.put
 
 -- the four texts of a line
 pub put_line_lem : (a b c d e : List ℕ) (at p q r s n answer : ℕ) → at + 25 ≤ length a → answer < 256 →

@@ -1,22 +1,54 @@
 -- The event input: its ranges, what a matching edge leaves of it, and that it stays lawful; and the words of latches. Assumes nothing.
-use Prim.Native.Nat.{ℕ, ◌+◌, ◌/◌, ◌%◌, ◌≤◌, ◌<◌, min}
-use mathlib.Core.Path.{◌≡◌, refl, sym, ap, ◌∙◌}
-use mathlib.Core.Bool.{Bool, true, false, ◌&&◌, ◌||◌, not, or-true}
-use mathlib.Core.List.{List}
-use native.Mathlib.Nat.{min-eq_left, min-eq_right}
+use Prim.Native.Nat.{ℕ, zero, suc, ◌/◌, ◌%◌}
+use mathlib.Core.Path.{◌≡◌, refl, sym, ap, ap₂, ◌∙◌}
+use mathlib.Core.Bool.{Bool, true, false, ◌&&◌, ◌||◌, not, beq, or-true}
+use mathlib.Core.List.{List, [], ◌∷◌}
 use native.Mathlib.Omega.{arith}
-use lib.Dec.{ltb, eqb}
-use borrow.Author.Tests.{eq-eqb, lt-ltb}
+use lib.Bits.{bit_and}
+use lib.Dec.{ltb, eqb, eqb-suc-zero}
+use lib.ListN.{length, replicate}
+use borrow.Author.Tests.{lt-ltb, le-ltb, ne_eqb}
+use Rattle.std.specs.Cmp.Lexicographic.{pointwise}
 use Rattle.wire.specs.Digits.{below, pick}
+use Rattle.wire.specs.declared.words.Moment.{Moment}
+use Rattle.std.specs.Prelude.{Ok}
 use Rattle.wire.specs.Words.{zero_words, read_words}
 use Rattle.wire.proofs.digits.Laws.{and_both, zeros_below}
 use Rattle.parts.specs.declared.event.Event.{Event}
-use Rattle.parts.specs.Events.{keeps_first, clear_event, latch_lawful, control_lawful, event_lawful, control_written, opened, captured, counted, edge_taken}
+use Rattle.parts.specs.Events.{keeps_first, clear_event, latch_lawful, control_lawful, event_lawful, control_written, opened, captured, counted, matching, edge_taken}
+use Rattle.parts.specs.Pending.{bit}
+use Rattle.parts.proofs.pending.Bits.{bit_0_by_and, bit_1_by_and}
+
+-- words are all zero exactly if they equal as many zeros
+zero_word : (w : ℕ) → eqb w 0 ≡ ltb w 1
+zero_word zero = refl
+zero_word (suc w) = eqb-suc-zero w ∙ sym (le-ltb (suc w) 1 (omega arith))
+
+equal_zeros : (ws : List ℕ) → pointwise eqb ws (replicate (length ws) 0) ≡ below 1 ws
+unfolding below
+equal_zeros [] = refl
+equal_zeros (w ∷ ws) = ap₂ ◌&&◌ (zero_word w) (equal_zeros ws)
+
+pub five_zeros : (ws : List ℕ) → length ws ≡ 5 → pointwise eqb ws zero_words ≡ below 1 ws
+five_zeros ws l = ap (λ (n : ℕ). pointwise eqb ws (replicate n 0)) (sym l) ∙ equal_zeros ws
 
 -- two latches of zeros are lawful
 pub latches_zero : (ws vs : List ℕ) → below 1 ws ≡ true → below 1 vs ≡ true → (latch_lawful ws && latch_lawful vs) ≡ true
 unfolding latch_lawful
 latches_zero ws vs e f = simp (e, f)
+
+-- with capture on, the kind of edge decides
+chosen : (t falling : Bool) → beq t falling ≡ pick falling t (not t)
+chosen true true = refl
+chosen true false = refl
+chosen false true = refl
+chosen false false = refl
+
+pub kind_decides : (control : ℕ) (falling : Bool) → (bit_and control 1 ≡ 0 → ⊥) → beq (not (eqb (bit_and control 2) 0)) falling ≡ matching control falling
+unfolding matching
+kind_decides control falling h =
+    let on : bit 1 control ≡ true = sym (bit_0_by_and control) ∙ ap not (ne_eqb (bit_and control 1) 0 h) in
+    rw (bit_1_by_and control) (chosen (bit 2 control) falling ∙ ap (λ (t : Bool). t && pick falling (bit 2 control) (not (bit 2 control))) (sym on))
 
 -- the event input's ranges
 pub event_is : (e : Event) → event_lawful e ≡ (control_lawful e.control e.closed && latch_lawful e.latch)
@@ -65,9 +97,9 @@ written_fits true v = ap (control_lawful (v % 8)) (sym (bit_written v)) ∙ kept
 written_fits false v = open_fits (v % 8) (lt-ltb (v % 8) 8 (omega arith))
 
 -- words that read are lawful in a latch, and so are five zero words
-pub read_lawful : (ws : List ℕ) → (read_words ws).number ≡ 0 → latch_lawful ws ≡ true
+pub read_lawful : (ws : List ℕ) (m : Moment) → read_words ws ≡ Ok m → latch_lawful ws ≡ true
 unfolding latch_lawful
-read_lawful ws e = simp (eq-eqb _ _ e, or-true)
+read_lawful ws m e = simp (e, or-true)
 
 pub zero_lawful : latch_lawful zero_words ≡ true
 unfolding latch_lawful
@@ -86,19 +118,6 @@ module _ (e : Event) (ws : List ℕ) where
   pub edge_captures : e.closed ≡ false → edge_taken e ws ≡ captured e ws
   unfolding edge_taken
   edge_captures h = ap (λ (t : Bool). pick t (counted e) (captured e ws)) h
-
-  abbrev with_missed : ℕ → Event
-  with_missed n = record { control = e.control; closed = e.closed; missed = n; latch = e.latch }
-
-  -- as the code has it: one more, none more at 65,535, and the words
-  pub counts : e.closed ≡ true → e.missed < 65535 → with_missed (e.missed + 1) ≡ edge_taken e ws
-  counts h l = ap with_missed (let m : e.missed + 1 ≡ min 65535 (e.missed + 1) = sym (min-eq_right (omega (arith, l))) in m) ∙ sym (edge_counts h)
-
-  pub holds : e.closed ≡ true → 65535 ≤ e.missed → e.missed ≤ 65535 → e ≡ edge_taken e ws
-  holds h l m = ap with_missed (let k : e.missed ≡ min 65535 (e.missed + 1) = sym (min-eq_left (omega (arith, l)) ∙ omega (arith, l, m)) in k) ∙ sym (edge_counts h)
-
-  pub captures : e.closed ≡ false → (vs : List ℕ) → vs ≡ ws → captured e vs ≡ edge_taken e ws
-  captures h vs q = ap (captured e) q ∙ sym (edge_captures h)
 
 -- a lawful event input stays lawful: CONTROL written, the latch opened, an edge taken
 module _ (e : Event) (h : event_lawful e ≡ true) where

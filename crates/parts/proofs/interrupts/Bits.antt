@@ -8,34 +8,11 @@ use native.Mathlib.Omega.{arith}
 use borrow.Author.Tests.{ltb-true, eqb-false, ne_eqb}
 use lib.Dec.{eqb, ltb, lit<}
 use Rattle.wire.specs.Digits.{pick}
-use Rattle.wire.proofs.digits.Laws.{lt_or_le, and_left, and_right, and_both}
+use Rattle.wire.proofs.digits.Laws.{and_left, and_right, and_both}
 use Rattle.parts.specs.declared.interrupts.Interrupts.{Interrupts}
 use Rattle.parts.specs.Pending.{bit, raised, lowered, cleared, meet, Shared}
 use Rattle.parts.specs.Interrupts.{sources_raised, source_of, line_up}
-
--- ---- a test of every number below n
-
-unfoldable all : ℕ → (ℕ → Bool) → Bool
-all zero f = true
-all (suc n) f = f n && all n f
-
-all_at : (n : ℕ) (f : ℕ → Bool) → all n f ≡ true → (x : ℕ) → x < n → f x ≡ true
-unfolding all
-all_at zero f h x l = absurd (omega arith)
-all_at (suc n) f h x l =
-    ⊎_elim (λ (m : x < n). all_at n f (and_right (f n) (all n f) h) x m)
-    (λ (m : n ≤ x). ap f {x = x} {y = n} (omega arith) ∙ and_left (f n) (all n f) h) (lt_or_le x n)
-
-same : Bool → Bool → Bool
-same true t = t
-same false t = not t
-
-same_is : (s t : Bool) → same s t ≡ true → s ≡ t
-unfolding same
-same_is true true e = refl
-same_is false false e = refl
-same_is true false e = sym e
-same_is false true e = e
+use Rattle.parts.proofs.pending.Bits.{all, all_at, same, same_is}
 
 -- a test of every bit i, every bit j and every number
 abbrev everywhere : (ℕ → ℕ → ℕ → Bool) → Bool

@@ -3,23 +3,13 @@ use Prim.Native.Nat.{ℕ, ◌%◌, ◌<◌}
 use mathlib.Core.Path.{◌≡◌, refl}
 use mathlib.Core.Bool.{true, false}
 use lib.Dec.{ltb}
-use borrow.Author.Tests.{lt-ltb, ltb-true, ne_eqb}
+use borrow.Author.Tests.{lt-ltb, ltb-true}
 use Rattle.wire.proofs.digits.Laws.{and_both}
 use Rattle.parts.specs.declared.interrupts.Interrupts.{Interrupts}
 use Rattle.parts.specs.Interrupts.{with_mask, with_pending, with_level, with_vector, interrupts_lawful, interrupts_written, sources_raised}
 use Rattle.parts.specs.Pending.{raised, cleared}
 
--- mask and pending bits in range, so LEVEL decides
-pub level_decides : (i : Interrupts) → i.mask < 32 → i.pending < 32 → ltb i.level 8 ≡ interrupts_lawful i
-unfolding interrupts_lawful
-level_decides i m p = simp (lt-ltb _ _ m, lt-ltb _ _ p)
-
--- none of the four
-pub writes_none : (i : Interrupts) (reg v : ℕ) → (reg ≡ 14 → ⊥) → (reg ≡ 15 → ⊥) → (reg ≡ 16 → ⊥) → (reg ≡ 17 → ⊥) → i ≡ interrupts_written i reg v
-unfolding interrupts_written
-writes_none i reg v f g h k = simp (ne_eqb reg 14 f, ne_eqb reg 15 g, ne_eqb reg 16 h, ne_eqb reg 17 k)
-
--- each of the four
+-- each of the four, written
 pub writes_mask : (i : Interrupts) (v : ℕ) → interrupts_written i 14 v ≡ with_mask i (v % 32)
 unfolding interrupts_written
 writes_mask i v = refl

@@ -1,34 +1,23 @@
 -- Saving and loading, by the tables of their refusals. Assumes nothing.
-use Prim.Native.Nat.{ℕ, ◌≤◌, ◌<◌}
-use mathlib.Core.Path.{◌≡◌, refl, ◌∙◌}
+use Prim.Native.Nat.{ℕ}
+use mathlib.Core.Path.{◌≡◌, refl}
 use mathlib.Core.Bool.{Bool, true, false, ◌&&◌, not}
 use mathlib.Core.List.{List, [], ◌∷◌, ◌++◌}
 use lib.Dec.{eqb, ltb}
 use lib.ListN.{length, drop}
-use borrow.Author.Tests.{lt-ltb, le-ltb, ne_eqb}
+use borrow.Author.Tests.{ne_eqb}
 use Rattle.wire.specs.Digits.{pick, unpacked}
-use Rattle.wire.specs.Numbers.{◌if◌, given}
+use Rattle.wire.specs.Numbers.{◌if◌, given, answered, number_of}
 use Rattle.wire.proofs.digits.Laws.{picked}
+use Rattle.wire.proofs.numbers.Names.{given_number}
 use Rattle.parts.specs.declared.settings.Settings.{Settings}
-use Rattle.parts.specs.declared.saved.SettingsRead.TheVariants as SettingsRead
+use Rattle.std.specs.Prelude.{Some, None, ⊤}
 use Rattle.parts.specs.Settings.{settings_lawful}
 use Rattle.parts.specs.Saved.{saved_form, meaningful, saved_lines, saved_refusal, settings_in, put_refusal, row_put, read_saved, number_loaded, settings_loaded}
 
 -- SAVING
 
 module _ (s : Settings) (row : List ℕ) where
-  pub put_18 : settings_lawful s ≡ false → (18 ≡ put_refusal s (length row)) × (row ≡ row_put s row)
-  unfolding put_refusal row_put
-  put_18 e = (simp e, simp e)
-
-  pub put_14 : settings_lawful s ≡ true → length row < 5 → (14 ≡ put_refusal s (length row)) × (row ≡ row_put s row)
-  unfolding put_refusal row_put
-  put_14 e h = (simp (e, lt-ltb (length row) 5 h), simp (e, lt-ltb (length row) 5 h))
-
-  pub put_done : settings_lawful s ≡ true → 5 ≤ length row → (after : List ℕ) → after ≡ saved_form s ++ drop 5 row → (0 ≡ put_refusal s (length row)) × (after ≡ row_put s row)
-  unfolding put_refusal row_put
-  put_done e h after a = (simp (e, le-ltb (length row) 5 h), a ∙ simp (e, le-ltb (length row) 5 h))
-
   -- of lawful settings, the row alone decides
   pub put_known : settings_lawful s ≡ true
       → (put_refusal s (length row) ≡ given (14 if ltb (length row) 5 ∷ []))
@@ -36,11 +25,16 @@ module _ (s : Settings) (row : List ℕ) where
   unfolding put_refusal row_put
   put_known e = (simp e, simp e)
 
+-- and the number of what saving answers is the one that its lines give
+pub put_told : (s : Settings) (room : ℕ) → number_of (answered {A = ⊤} (put_refusal s room) tt) ≡ put_refusal s room
+unfolding put_refusal
+put_told s room = given_number (18 if not (settings_lawful s) ∷ 14 if ltb room 5 ∷ []) tt refl
+
 -- LOADING
 
 -- bytes are loaded as settings exactly if they are five, and mean something
 pub loaded : (bytes : List ℕ) (t : Bool) → eqb (length bytes) 5 && meaningful (unpacked 2 8 bytes) ≡ t
-    → read_saved bytes ≡ pick t (SettingsRead.Is (settings_in (unpacked 2 8 bytes))) SettingsRead.Refused
+    → read_saved bytes ≡ pick t (Some (settings_in (unpacked 2 8 bytes))) None
 unfolding read_saved saved_refusal
 loaded bytes true h = simp h
 loaded bytes false h = simp h
@@ -55,14 +49,14 @@ pub number_loaded_lem : (bytes : List ℕ) → number_loaded (read_saved bytes) 
 unfolding read_saved saved_refusal
 number_loaded_lem bytes = go (eqb (length bytes) 5 && meaningful (unpacked 2 8 bytes))
   where
-    go : (t : Bool) → number_loaded (pick (eqb (given (19 if not t ∷ [])) 0) (SettingsRead.Is (settings_in (unpacked 2 8 bytes))) SettingsRead.Refused) ≡ given (19 if not t ∷ [])
+    go : (t : Bool) → number_loaded (pick (eqb (given (19 if not t ∷ [])) 0) (Some (settings_in (unpacked 2 8 bytes))) None) ≡ given (19 if not t ∷ [])
     go true = refl
     go false = refl
 
 -- and its settings are what the bytes say, if no line holds
 pub settings_loaded_lem : (these : Settings) (bytes : List ℕ) → settings_loaded these (read_saved bytes) ≡ pick (eqb (saved_refusal bytes) 0) (settings_in (unpacked 2 8 bytes)) these
 unfolding read_saved
-settings_loaded_lem these bytes = picked (settings_loaded these) (eqb (saved_refusal bytes) 0) (SettingsRead.Is (settings_in (unpacked 2 8 bytes))) SettingsRead.Refused
+settings_loaded_lem these bytes = picked (settings_loaded these) (eqb (saved_refusal bytes) 0) (Some (settings_in (unpacked 2 8 bytes))) None
 
 -- a refused saving leaves the row
 pub put_stays : (s : Settings) (row : List ℕ) → (put_refusal s (length row) ≡ 0 → ⊥) → row_put s row ≡ row

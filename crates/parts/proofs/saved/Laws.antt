@@ -11,8 +11,8 @@ use lib.Dec.{leb, ltb, eqb, lit<}
 use lib.IntN.{ℤ, pos, negsuc, nat_abs}
 use lib.Signed.{lt_z}
 use lib.ListN.{length, take, drop, get_or, replicate}
-use lib.Seq.{take_at, drop_at, sets, sets-eq}
-use borrow.Author.Tests.{ltb-true, leb-true, eq-eqb, eqb-true}
+use lib.Seq.{take_at, drop_at}
+use borrow.Author.Tests.{ltb-true, leb-true, eq-eqb, eqb-true, ne_eqb}
 use Rattle.wire.specs.Digits.{pick, digits, num, below, packed, unpacked}
 use Rattle.wire.specs.Packets.{mode_means, pair_means, offset_fits}
 use Rattle.wire.proofs.digits.Laws.{and_left, and_right, zeros, digits_length, digits_above, digits_mod_pow, digits_split, num_digits}
@@ -22,7 +22,8 @@ use Rattle.wire.specs.declared.packets.ClockSource.{ClockSource}
 use Rattle.wire.specs.declared.packets.Generator.{Generator}
 use Rattle.wire.proofs.words.Laws.{five_of}
 use Rattle.parts.specs.declared.settings.Settings.{Settings}
-use Rattle.parts.specs.declared.saved.SettingsRead.{SettingsRead}
+use Rattle.std.specs.Prelude.{Option, Some, None}
+use Rattle.std.specs.Int.{w64, to_be_bytes, from_be_bytes}
 use Rattle.parts.specs.Settings.{settings_lawful}
 use Rattle.parts.specs.Saved.{format_number, modulation_bit, clock_bit, generator_bit, sign_bit, settings_bits, saved_form, bits_at, format_of_number, modulation_of_bit, clock_of_bit, generator_of_bit, offset_of_bits, settings_in, meaningful, saved_refusal, read_bits, read_saved}
 
@@ -125,22 +126,19 @@ module _ (s : Settings) (w : settings_lawful s ≡ true) where
       leb-true (nat_abs s.offset) 9999999 (and_right (pair_means s.format s.modulation) (offset_fits s.offset) v)
 
 -- the number of settings
-abbrev pub number_of : Settings → ℕ
-number_of s = ((((((s.mode * 8 + format_number s.format) * 2 + modulation_bit s.modulation) * 2 + clock_bit s.clock) * 2 + generator_bit s.generator) * 2 + sign_bit s.offset) * 16777216 + nat_abs s.offset) * 64
+abbrev pub bits_of : Settings → ℕ
+bits_of s = ((((((s.mode * 8 + format_number s.format) * 2 + modulation_bit s.modulation) * 2 + clock_bit s.clock) * 2 + generator_bit s.generator) * 2 + sign_bit s.offset) * 16777216 + nat_abs s.offset) * 64
 
-pub number_bits : (s : Settings) → settings_lawful s ≡ true → digits 2 40 (number_of s) ≡ settings_bits s ++ replicate 6 0
+pub number_bits : (s : Settings) → settings_lawful s ≡ true → digits 2 40 (bits_of s) ≡ settings_bits s ++ replicate 6 0
 unfolding settings_bits
 number_bits s w =
     fields s.mode (format_number s.format) (modulation_bit s.modulation) (clock_bit s.clock) (generator_bit s.generator) (sign_bit s.offset) (nat_abs s.offset)
     (format_below s.format) (modulation_below s.modulation) (clock_below s.clock) (generator_below s.generator) (sign_below s.offset) (omega (arith, size_small s w))
 
--- the bytes of their number, stored at a row's front
-pub row_after : (s : Settings) (n : ℕ) (row : List ℕ) → digits 2 40 n ≡ settings_bits s ++ replicate 6 0 → 5 ≤ length row →
-    sets row 0 (n / 4294967296 % 256 ∷ n / 16777216 % 256 ∷ n / 65536 % 256 ∷ n / 256 % 256 ∷ n % 256 ∷ []) ≡ saved_form s ++ drop 5 row
+-- the last five of their number's eight bytes
+pub last_five : (s : Settings) (n : ℕ) (bytes : List ℕ) → digits 2 40 n ≡ settings_bits s ++ replicate 6 0 → bytes ≡ to_be_bytes w64 n → take 5 (drop 3 bytes) ≡ saved_form s
 unfolding saved_form
-row_after s n row e h =
-    sets-eq (n / 4294967296 % 256 ∷ n / 16777216 % 256 ∷ n / 65536 % 256 ∷ n / 256 % 256 ∷ n % 256 ∷ []) row 0 h
-    ∙ ap (λ (l : List ℕ). l ++ drop 5 row) (sym (bytes_of n) ∙ ap (packed 2 8 5) e)
+last_five s n bytes e q = ap (λ (l : List ℕ). take 5 (drop 3 l)) q ∙ sym (bytes_of n) ∙ ap (packed 2 8 5) e
 
 -- READING A NUMBER'S BITS
 
@@ -186,22 +184,30 @@ pub meaningful_at : (n : ℕ) →
 unfolding meaningful
 meaningful_at n = simp (place 3 3 34 n, place 9 1 30 n, place 10 24 6 n, spare n)
 
--- what a test of settings tells of what they equal
-pub fit_is : {x s : Settings} {r t : Bool} → s ≡ x → r ≡ settings_lawful s → r ≡ t → settings_lawful x ≡ t
-fit_is p q e = cc
-
 -- five bytes are loaded as the bits of their number say
-nineteen : (t : Bool) (a b : SettingsRead) → pick t a b ≡ pick (eqb (pick (not t) 19 0) 0) a b
+nineteen : (t : Bool) (a b : Option Settings) → pick t a b ≡ pick (eqb (pick (not t) 19 0) 0) a b
 nineteen true a b = refl
 nineteen false a b = refl
 
 by_bits : (bytes : List ℕ) → length bytes ≡ 5 → read_bits (unpacked 2 8 bytes) ≡ read_saved bytes
 unfolding read_bits read_saved saved_refusal
-by_bits bytes l = rw (eq-eqb (length bytes) 5 l) (nineteen (meaningful (unpacked 2 8 bytes)) (SettingsRead.Is (settings_in (unpacked 2 8 bytes))) SettingsRead.Refused)
+by_bits bytes l = rw (eq-eqb (length bytes) 5 l) (nineteen (meaningful (unpacked 2 8 bytes)) (Some (settings_in (unpacked 2 8 bytes))) None)
 
-pub five_bytes : (bytes : List ℕ) → length bytes ≡ 5 → (r : SettingsRead) (n : ℕ) → r ≡ read_bits (digits 2 40 n) →
-    digits 2 40 n ≡ unpacked 2 8 (get_or bytes 0 0 ∷ get_or bytes 1 0 ∷ get_or bytes 2 0 ∷ get_or bytes 3 0 ∷ get_or bytes 4 0 ∷ []) → r ≡ read_saved bytes
-five_bytes bytes l r n p q = p ∙ ap read_bits (q ∙ ap (unpacked 2 8) (sym (five_of bytes l))) ∙ by_bits bytes l
+pub five_bytes : (bytes : List ℕ) → length bytes ≡ 5 → ((i : ℕ) → get_or bytes i 0 < 256) → (r : Option Settings) (n : ℕ) → r ≡ read_bits (digits 2 40 n) →
+    n ≡ from_be_bytes w64 (0 ∷ 0 ∷ 0 ∷ get_or bytes 0 0 ∷ get_or bytes 1 0 ∷ get_or bytes 2 0 ∷ get_or bytes 3 0 ∷ get_or bytes 4 0 ∷ []) → r ≡ read_saved bytes
+five_bytes bytes l h r n p q =
+    let a = get_or bytes 0 0 in
+    let b = get_or bytes 1 0 in
+    let c = get_or bytes 2 0 in
+    let d = get_or bytes 3 0 in
+    let e = get_or bytes 4 0 in
+    let m : n ≡ (((a * 256 + b) * 256 + c) * 256 + d) * 256 + e = omega (arith, q) in
+    p ∙ ap read_bits (ap (digits 2 40) m ∙ number_in a b c d e (h 1) (h 2) (h 3) (h 4) ∙ ap (unpacked 2 8) (sym (five_of bytes l))) ∙ by_bits bytes l
+
+-- and as nothing, if they are not five
+pub not_five : (bytes : List ℕ) → (length bytes ≡ 5 → ⊥) → None ≡ read_saved bytes
+unfolding read_saved saved_refusal
+not_five bytes h = simp (ne_eqb (length bytes) 5 h)
 
 -- SIGNED NUMBERS
 

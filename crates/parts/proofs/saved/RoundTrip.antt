@@ -12,24 +12,13 @@ use borrow.Author.Tests.{leb-true, eqb-true, not-false}
 use Rattle.wire.specs.Digits.{digits, below, packed, unpacked}
 use Rattle.wire.proofs.numbers.Laws.{given_zero, quiet_first}
 use Rattle.wire.specs.declared.packets.Format.{Format}
-use Rattle.wire.specs.declared.packets.Modulation.{Modulation}
-use Rattle.wire.specs.declared.packets.ClockSource.{ClockSource}
-use Rattle.wire.specs.declared.packets.Generator.{Generator}
 use Rattle.wire.proofs.digits.Laws.{and_left, and_right, and_both, zeros, cut, below_append, digits_length, digits_below, read_part, part_below, unpack_packed, pack_unpacked, packed_length, unpacked_length}
 use Rattle.parts.specs.declared.settings.Settings.{Settings}
 use Rattle.parts.specs.Settings.{settings_lawful}
-use Rattle.parts.specs.Saved.{format_number, modulation_bit, clock_bit, generator_bit, sign_bit, settings_bits, saved_form, bits_at, format_of_number, modulation_of_bit, clock_of_bit, generator_of_bit, offset_of_bits, settings_in, meaningful, saved_lines, saved_refusal}
-use Rattle.parts.proofs.saved.Laws.{number_of, number_bits, mode_small, size_small, format_below, modulation_below, clock_below, generator_below, sign_below, settings_at, meaningful_at}
+use Rattle.parts.specs.Saved.{format_number, modulation_bit, clock_bit, generator_bit, sign_bit, settings_bits, saved_form, bits_at, format_of_number, modulation_of_bit, clock_of_bit, generator_of_bit, offset_of_bits, settings_in, meaningful, saved_lines, saved_refusal, format_back, modulation_back, clock_back, generator_back}
+use Rattle.parts.proofs.saved.Laws.{bits_of, number_bits, mode_small, size_small, format_below, modulation_below, clock_below, generator_below, sign_below, settings_at, meaningful_at}
 
 -- SAVED, THEN LOADED
-
-format_back : (f : Format) → format_of_number (format_number f) ≡ f
-unfolding format_of_number
-format_back Format.A = refl
-format_back Format.B = refl
-format_back Format.C = refl
-format_back Format.N = refl
-format_back Format.X = refl
 
 format_four : (f : Format) → leb (format_number f) 4 ≡ true
 format_four Format.A = refl
@@ -37,18 +26,6 @@ format_four Format.B = refl
 format_four Format.C = refl
 format_four Format.N = refl
 format_four Format.X = refl
-
-modulation_back : (m : Modulation) → modulation_of_bit (modulation_bit m) ≡ m
-modulation_back Modulation.M = refl
-modulation_back Modulation.D = refl
-
-clock_back : (c : ClockSource) → clock_of_bit (clock_bit c) ≡ c
-clock_back ClockSource.External = refl
-clock_back ClockSource.Internal = refl
-
-generator_back : (g : Generator) → generator_of_bit (generator_bit g) ≡ g
-generator_back Generator.B = refl
-generator_back Generator.H = refl
 
 offset_back : (z : ℤ) → offset_of_bits (sign_bit z) (nat_abs z) ≡ z
 offset_back (pos n) = refl
@@ -75,27 +52,27 @@ taken_apart m f d c g t z hm hf hd hc hg ht hz = omega arith
 
 module _ (s : Settings) (w : settings_lawful s ≡ true) where
   abbrev bits : List ℕ
-  bits = digits 2 40 (number_of s)
+  bits = digits 2 40 (bits_of s)
 
   saved_bits : unpacked 2 8 (saved_form s) ≡ bits
   unfolding saved_form
   saved_bits =
       ap (λ (l : List ℕ). unpacked 2 8 (packed 2 8 5 l)) (sym (number_bits s w))
-      ∙ unpack_packed 2 (lit< tt) 8 5 bits (digits_length 2 (lit< tt) 40 (number_of s)) (digits_below 2 (lit< tt) 40 (number_of s))
+      ∙ unpack_packed 2 (lit< tt) 8 5 bits (digits_length 2 (lit< tt) 40 (bits_of s)) (digits_below 2 (lit< tt) 40 (bits_of s))
 
-  apart : Fields (number_of s) s.mode (format_number s.format) (modulation_bit s.modulation) (clock_bit s.clock) (generator_bit s.generator) (sign_bit s.offset) (nat_abs s.offset)
+  apart : Fields (bits_of s) s.mode (format_number s.format) (modulation_bit s.modulation) (clock_bit s.clock) (generator_bit s.generator) (sign_bit s.offset) (nat_abs s.offset)
   apart =
       taken_apart s.mode (format_number s.format) (modulation_bit s.modulation) (clock_bit s.clock) (generator_bit s.generator) (sign_bit s.offset) (nat_abs s.offset)
       (mode_small s w) (format_below s.format) (modulation_below s.modulation) (clock_below s.clock) (generator_below s.generator) (sign_below s.offset) (omega (arith, size_small s w))
 
   settings_back : settings_in bits ≡ s
   settings_back =
-      settings_at (number_of s)
+      settings_at (bits_of s)
       ∙ simp (apart.mode, apart.format, apart.modulation, apart.clock, apart.generator, apart.sign, apart.size, format_back, modulation_back, clock_back, generator_back, offset_back)
 
   meaningful_back : meaningful bits ≡ true
   meaningful_back =
-      meaningful_at (number_of s)
+      meaningful_at (bits_of s)
       ∙ simp (settings_back, w, apart.format, apart.sign, apart.size, apart.spare, format_four, no_minus_zero)
 
   -- what was saved is not refused, and is loaded as the same settings
@@ -116,7 +93,6 @@ unpacked_below k [] = refl
 unpacked_below k (w ∷ ws) = below_append 2 (digits 2 k w) (unpacked 2 k ws) (digits_below 2 (lit< tt) k w) (unpacked_below k ws)
 
 format_again : (n : ℕ) → n ≤ 4 → format_number (format_of_number n) ≡ n
-unfolding format_of_number
 format_again zero h = refl
 format_again (suc zero) h = refl
 format_again (suc (suc zero)) h = refl

@@ -8,6 +8,7 @@ use native.Mathlib.Nat.{mul-le-mul, zero-mul}
 use native.Mathlib.Omega.{arith}
 use lib.Dec.{leb, ltb, eqb}
 use borrow.Author.Tests.{le-leb, lt-leb, leb-true, lt-ltb, le-ltb, eq-eqb, ne_eqb}
+use Rattle.std.specs.Prelude.{min}
 use Rattle.wire.specs.Digits.{pick}
 use Rattle.wire.proofs.digits.Laws.{lt_or_le, clash}
 use Rattle.sync.specs.Counting.{frequency, least, falls_on, come, count, falls_among, count_falls}
@@ -88,6 +89,14 @@ module _ (f : ℕ) (above : 0 < f) where
   unfolding count
   count_held m h = come_all (f - 1) m (omega arith)
 
+  -- of the two the smaller
+  pub count_is_least : (m : ℕ) → min (m * f / 1000000) (f - 1) ≡ count f m
+  count_is_least m =
+      ⊎_elim
+      (λ l. omega (arith, count_below m l))
+      (λ g. omega (arith, count_held m g))
+      (lt_or_le (m * f / 1000000) f)
+
   -- none has come with the pulse
   pub count_none : count f 0 ≡ 0
   count_none = count_below 0 (omega (arith, zero-mul f)) ∙ omega (arith, zero-mul f)
@@ -127,6 +136,13 @@ module _ (f : ℕ) (above : 0 < f) where
       (lt_or_le (count f m + 1) f))
       (λ g. let e = count_held m g in rw (le-ltb (count f m + 1) f (omega arith)) (sym (le-ltb (count f m) (count f n) (let c = count_least n in omega arith))))
       (lt_or_le (m * f / 1000000) f)
+
+  -- the two tests one after the other
+  pub next_below : (m n : ℕ) → m ≤ n → count f m + 1 < f → leb ((count f m + 1) * 1000000) (n * f) ≡ ltb (count f m) (count f n)
+  next_below m n h l = simp (lt-ltb (count f m + 1) f l) at (next_come m n h)
+
+  pub next_last : (m n : ℕ) → m ≤ n → f ≤ count f m + 1 → ltb (count f m + 1) f ≡ ltb (count f m) (count f n)
+  next_last m n h l = le-ltb (count f m + 1) f l ∙ sym (le-ltb (count f m) (count f n) (let c = count_least n in omega arith))
 
 -- RISING
 

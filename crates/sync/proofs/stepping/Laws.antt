@@ -1,11 +1,12 @@
 -- What n quiet steps leave of a lawful board, at once: by induction on the steps, each of which goes on from where the ones before it came to. Assumes nothing.
 use Prim.Native.Nat.{ℕ, zero, suc, ◌+◌, ◌-◌, ◌≤◌, ◌<◌}
 use mathlib.Core.Path.{◌≡◌, refl, sym, ap, ap₂, ◌∙◌}
-use mathlib.Core.Bool.{Bool, true, false, ◌||◌, ◌&&◌, not, or-false}
+use mathlib.Core.Bool.{Bool, true, false, ◌||◌, ◌&&◌, or-false}
 use mathlib.Core.Logic.{⊎_elim}
 use native.Mathlib.Omega.{arith}
 use lib.Dec.{leb, ltb, eqb}
 use borrow.Author.Tests.{le-leb, lt-leb, lt-ltb, le-ltb, eq-eqb, ne_eqb}
+use Rattle.std.specs.Prelude.{min}
 use Rattle.wire.specs.Digits.{pick}
 use Rattle.wire.proofs.digits.Laws.{lt_or_le, or_assoc}
 use Rattle.sync.specs.declared.board.Board.{Board}
@@ -44,11 +45,6 @@ later n b = pick b.seen (passed n b) b
 
 -- STEPS IN BETWEEN
 
--- a bit that is cleared, or stays with what sets it
-pub cleared : (t a : Bool) → (not t && a) ≡ pick t false a
-cleared true a = refl
-cleared false a = refl
-
 -- a rise over two spans is one over the first or over the second
 rises_twice : (a b c : ℕ) → a ≤ b → b ≤ c → (ltb a b || ltb b c) ≡ ltb a c
 rises_twice a b c h k =
@@ -66,6 +62,10 @@ held_below m h = simp (lt-ltb m 1008001 h)
 pub held_above : (m : ℕ) → 1008001 ≤ m → held m ≡ 1008001
 unfolding held
 held_above m h = simp (le-ltb m 1008001 h)
+
+-- so many microseconds, or as many as are left until then
+pub held_sum : (m n : ℕ) → m ≤ 1008001 → m + min n (1008001 - m) ≡ held (m + n)
+held_sum m n h = ⊎_elim (λ l. omega (arith, held_below (m + n) l)) (λ g. omega (arith, held_above (m + n) g)) (lt_or_le (m + n) 1008001)
 
 pub held_within : (m : ℕ) → m ≤ 1008001 → held m ≡ m
 held_within m h = ⊎_elim (held_below m) (λ g. held_above m g ∙ omega arith) (lt_or_le m 1008001)
@@ -176,3 +176,20 @@ later_seen n b s = simp s
 pub later_unseen : (n : ℕ) (b : Board) → b.seen ≡ false → later n b ≡ b
 unfolding later
 later_unseen n b u = simp u
+
+-- and in what the code computes: by whether 1,008,001 is reached, and by the count there
+pub quiet_is : (n : ℕ) (b : Board) → lawful b ≡ true → b.seen ≡ true
+    → record {
+      rc1 = b.rc1;
+      base = b.base;
+      seen = b.seen;
+      elapsed = held (b.elapsed + n);
+      bit = b.bit || (ltb b.elapsed 1008001 && eqb (held (b.elapsed + n)) 1008001);
+      err = b.err || (ltb b.elapsed 1008001 && eqb (held (b.elapsed + n)) 1008001);
+      slo = b.slo;
+      fast = b.fast || ltb (count (frequency b.rc1) b.elapsed) (count (frequency b.rc1) (held (b.elapsed + n)));
+    } ≡ quiet_steps n b
+quiet_is n b h s = rw (quiet_later n b h, later_seen n b s, held_late (b.elapsed + n), count_of_held (frequency b.rc1) (b.elapsed + n) (frequency_above b.rc1)) refl
+
+pub quiet_unseen : (n : ℕ) (b : Board) → lawful b ≡ true → b.seen ≡ false → quiet_steps n b ≡ b
+quiet_unseen n b h u = quiet_later n b h ∙ later_unseen n b u

@@ -6,8 +6,11 @@ use mathlib.Core.Bool.{Bool, true, ◌&&◌}
 use mathlib.Core.List.{List, [], ◌∷◌}
 use native.Mathlib.Nat.{add-zero, zero-add, add-suc, suc-add}
 use native.Mathlib.Omega.{arith}
+use lib.Dec.{eqb, lit<, lit≤}
 use lib.ListN.{length, get_or}
-use Rattle.wire.proofs.digits.Laws.{and_left, and_right}
+use borrow.Author.Tests.{eqb-true}
+use Rattle.wire.specs.Digits.{digits, num, PairTable}
+use Rattle.wire.proofs.digits.Laws.{and_left, and_right, below_more, digits_below, num_below}
 
 -- the test holds of each entry and its place, counted from i
 abbrev pub all : (ℕ → ℕ → Bool) → ℕ → List ℕ → Bool
@@ -24,3 +27,15 @@ from test i (n ∷ ns) h (suc k) l =
 -- so it holds of the entry at each place
 pub each : (test : ℕ → ℕ → Bool) (ns : List ℕ) → all test 0 ns ≡ true → (k : ℕ) → k < length ns → test k (get_or ns k 0) ≡ true
 each test ns h k l = ap (λ (m : ℕ). test m (get_or ns k 0)) (sym (zero-add k)) ∙ from test 0 ns h k l
+
+-- a table of pairs has its rule, by one test over all of it
+abbrev pub right : ℕ → ℕ → Bool
+right n pair = eqb pair (num 16 (digits 10 2 n))
+
+pub pairs_right : (table : List ℕ) → length table ≡ 100 → all right 0 table ≡ true → PairTable table
+pairs_right table l h = record { hundred = l; rule = λ n p. eqb-true (get_or table n 0) (num 16 (digits 10 2 n)) (each right table h n (rw l p)) }
+
+-- the two digits of a number have eight bits
+pub pair_small : (n : ℕ) → num 16 (digits 10 2 n) < 256
+unfolding digits
+pair_small n = num_below 16 (lit< tt) (digits 10 2 n) (below_more 10 16 (lit≤ tt) (digits 10 2 n) (digits_below 10 (lit< tt) 2 n))

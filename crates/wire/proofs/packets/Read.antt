@@ -1,17 +1,20 @@
--- What a row reads as, by the table of its refusals: the packet that it holds if no line is given, else the number. Assumes nothing.
+-- What a row reads as, by the table of its refusals: the packet that it holds if no line is given, else the refusal. Assumes nothing.
 use Prim.Native.Nat.{ℕ, ◌≤◌}
-use mathlib.Core.Path.{◌≡◌, refl, ap, ◌∙◌}
+use mathlib.Core.Path.{◌≡◌, refl, sym, ap, ◌∙◌}
 use mathlib.Core.Bool.{Bool, true, false, ◌&&◌}
 use mathlib.Core.List.{List, [], ◌∷◌}
 use native.Mathlib.Omega.{arith}
 use lib.Dec.{leb, eqb}
-use borrow.Author.Tests.{eqb-true, eqb-false, eq-eqb, leb-true}
+use borrow.Author.Tests.{eqb-false, eq-eqb, leb-true}
+use Rattle.std.specs.Prelude.{Ok, Err}
 use Rattle.wire.specs.Digits.{pick}
-use Rattle.wire.specs.Numbers.{Line, given, absent}
+use Rattle.wire.specs.Numbers.{Line, given, absent, number, refusal}
 use Rattle.wire.specs.Packets.{frame_lines, body_lines, packet_lines, packet_refusal, packet_in, needs_jam_off, packet_read, read_packet, number_read, values_of, no_values, values_read, jam_off_read}
+use Rattle.wire.specs.declared.numbers.Refusal.{Refusal}
 use Rattle.wire.specs.declared.packets.Packet.{Packet}
 use Rattle.wire.specs.declared.packets.PacketRead.{PacketRead}
-use Rattle.wire.proofs.digits.Laws.{and_both, picked, zero_or}
+use Rattle.wire.proofs.digits.Laws.{and_both, picked}
+use Rattle.wire.proofs.numbers.Names.{done_by, refused_by, number_refusal, given_number}
 
 pub refusal_given : (row : List ℕ) → packet_refusal row ≡ given (packet_lines row)
 unfolding packet_refusal
@@ -19,48 +22,36 @@ refusal_given row = refl
 
 -- the number of what a row reads as is the number that its table gives
 pub number_read_lem : (row : List ℕ) → number_read (read_packet row) ≡ packet_refusal row
-unfolding read_packet
-number_read_lem row =
-    picked number_read (eqb (packet_refusal row) 0) (packet_read (packet_in row)) (PacketRead.Refused (packet_refusal row))
-    ∙ zero_or (packet_refusal row) (eqb (packet_refusal row) 0) refl
+unfolding read_packet packet_refusal frame_lines body_lines
+number_read_lem row = given_number (packet_lines row) (packet_read (packet_in row)) refl
 
 -- and its values are those of the packet that it holds, 0 beside a refusal
 pub values_read_lem : (row : List ℕ) → values_read (read_packet row) ≡ pick (eqb (packet_refusal row) 0) (values_of (packet_in row)) no_values
 unfolding read_packet
-values_read_lem row = picked values_read (eqb (packet_refusal row) 0) (packet_read (packet_in row)) (PacketRead.Refused (packet_refusal row))
+values_read_lem row = picked values_read (eqb (packet_refusal row) 0) (Ok (packet_read (packet_in row))) (Err (refusal (packet_refusal row)))
 
 -- and it needs the jam off if that packet does; no refusal does
 pub jam_off_read_lem : (row : List ℕ) → jam_off_read (read_packet row) ≡ (eqb (packet_refusal row) 0 && needs_jam_off (packet_in row))
 unfolding read_packet
-jam_off_read_lem row = picked jam_off_read (eqb (packet_refusal row) 0) (packet_read (packet_in row)) (PacketRead.Refused (packet_refusal row)) ∙ and_picked (eqb (packet_refusal row) 0) (needs_jam_off (packet_in row))
+jam_off_read_lem row = picked jam_off_read (eqb (packet_refusal row) 0) (Ok (packet_read (packet_in row))) (Err (refusal (packet_refusal row))) ∙ and_picked (eqb (packet_refusal row) 0) (needs_jam_off (packet_in row))
   where
     and_picked : (s t : Bool) → pick s t false ≡ (s && t)
     and_picked true t = refl
     and_picked false t = refl
 
-pub reads_in : (row : List ℕ) → packet_refusal row ≡ 0 → read_packet row ≡ packet_read (packet_in row)
+pub reads_in : (row : List ℕ) → packet_refusal row ≡ 0 → read_packet row ≡ Ok (packet_read (packet_in row))
 unfolding read_packet
 reads_in row e = simp (eq-eqb (packet_refusal row) 0 e)
 
-pub is_by : (n : ℕ) (p q : Packet) (needs t : Bool) → eqb n 0 ≡ t → pick t (packet_read p) (PacketRead.Refused n) ≡ PacketRead.Is q needs → (n ≡ 0) × (p ≡ q) × (needs_jam_off p ≡ needs)
-is_by n p q needs true e h = (eqb-true n 0 e, cc, cc)
-is_by n p q needs false e h = absurd (let z : ◌≡◌ {A = ℕ} 0 1 = cc in omega arith)
-
-refused_by_lem : (n m : ℕ) (p : Packet) (t : Bool) → eqb n 0 ≡ t → pick t (packet_read p) (PacketRead.Refused n) ≡ PacketRead.Refused m → (n ≡ m) × (n ≡ 0 → ⊥)
-refused_by_lem n m p true e h = absurd (let z : ◌≡◌ {A = ℕ} 0 1 = cc in omega arith)
-refused_by_lem n m p false e h = (cc, eqb-false n 0 e)
-
-pub read_is : (row : List ℕ) (q : Packet) (needs : Bool) → read_packet row ≡ PacketRead.Is q needs → (packet_refusal row ≡ 0) × (packet_in row ≡ q) × (needs_jam_off (packet_in row) ≡ needs)
+pub read_is : (row : List ℕ) (q : Packet) (needs : Bool) → read_packet row ≡ Ok (record { packet = q; needs_jam_off = needs }) → (packet_refusal row ≡ 0) × (packet_in row ≡ q) × (needs_jam_off (packet_in row) ≡ needs)
 unfolding read_packet
-read_is row q needs h = is_by (packet_refusal row) (packet_in row) q needs (eqb (packet_refusal row) 0) refl h
+read_is row q needs h =
+    let r = done_by (packet_refusal row) (packet_read (packet_in row)) (record { packet = q; needs_jam_off = needs }) h in
+    (r.0, ap (λ (x : PacketRead). x.packet) r.1, ap (λ (x : PacketRead). x.needs_jam_off) r.1)
 
 -- so what is said beside a packet that is read is whether it needs the jam off
-pub read_as_lem : (row : List ℕ) (q : Packet) (needs : Bool) → read_packet row ≡ PacketRead.Is q needs → read_packet row ≡ packet_read q
-read_as_lem row q needs h = let r = read_is row q needs h in reads_in row r.0 ∙ ap packet_read r.1
-
-pub read_refused : (row : List ℕ) (m : ℕ) → read_packet row ≡ PacketRead.Refused m → (packet_refusal row ≡ m) × (packet_refusal row ≡ 0 → ⊥)
-unfolding read_packet
-read_refused row m h = refused_by_lem (packet_refusal row) m (packet_in row) (eqb (packet_refusal row) 0) refl h
+pub read_as_lem : (row : List ℕ) (q : Packet) (needs : Bool) → read_packet row ≡ Ok (record { packet = q; needs_jam_off = needs }) → read_packet row ≡ Ok (packet_read q)
+read_as_lem row q needs h = let r = read_is row q needs h in reads_in row r.0 ∙ ap (λ (p : Packet). Ok (packet_read p)) r.1
 
 -- a table whose numbers are all from a to b gives none but these
 unfoldable within : ℕ → ℕ → List Line → Bool
@@ -88,3 +79,12 @@ packet_numbered row = refl
 pub packet_number : (row : List ℕ) → (packet_refusal row ≡ 0 → ⊥) → (4 ≤ packet_refusal row) × (packet_refusal row ≤ 10)
 unfolding packet_refusal frame_lines body_lines within
 packet_number row = given_within 4 10 (packet_lines row) refl
+
+-- and the refusal is the name of that number
+pub read_refused : (row : List ℕ) (r : Refusal) → read_packet row ≡ Err r → (packet_refusal row ≡ number r) × (packet_refusal row ≡ 0 → ⊥)
+unfolding read_packet
+read_refused row r h =
+    let a = refused_by (packet_refusal row) (packet_read (packet_in row)) r h in
+    let z = eqb-false (packet_refusal row) 0 a.0 in
+    let b = packet_number row z in
+    (sym (number_refusal (packet_refusal row) (omega arith) (omega arith)) ∙ ap number a.1, z)

@@ -13,20 +13,20 @@ use lib.ListN.{length, take, drop, get_or, replicate, length-append, length-drop
 use lib.Seq.{take-append_seam, split_at}
 use borrow.Author.Tests.{lt-ltb, le-leb, ltb-true, leb-true, ne_eqb, eqb-true, eq-eqb, le-ltb, not-false}
 use Rattle.wire.specs.Digits.{pick, digits, num, below}
-use Rattle.wire.specs.Numbers.{◌if◌, given, quiet, absent}
-use Rattle.wire.specs.Packets.{has, place_of, body_of, frame_lines, body_lines, packet_refusal, read_packet, read_framed, read_body, packet_read, read_as, kinds_of, of_kinds, meaning, means, needs_jam_off, fits, pair_means, is_decimal, is_octal, is_sign, is_format, is_modulation, is_clock, is_generator, all_decimal, ascii_values, ascii, sign_of, signed, offset_of, read_number, read_signed, read_pair, format_of, modulation_of, clock_of, generator_of, letter_of_format, letter_of_modulation, letter_of_clock, letter_of_generator, id_of, data_of, framed, bytes_of, packet_lines, packet_in, packet_written, writing_refusal, write_packet, row_written, minus_zero, Holds}
-use Rattle.wire.specs.declared.packets.Number.{Number}
+use Rattle.std.specs.Prelude.{Some, Ok}
+use Rattle.wire.specs.Numbers.{◌if◌, given, quiet, absent, number_of, answered}
+use Rattle.wire.specs.Packets.{has, place_of, body_of, frame_lines, body_lines, packet_refusal, read_packet, read_body, packet_read, kinds_of, of_kinds, meaning, means, needs_jam_off, fits, is_decimal, is_octal, is_sign, is_format, is_modulation, is_clock, is_generator, all_decimal, ascii_values, ascii, sign_of, signed, offset_of, read_number, format_of, modulation_of, clock_of, generator_of, letter_of_format, letter_of_modulation, letter_of_clock, letter_of_generator, id_of, data_of, framed, bytes_of, format_letter, modulation_letter, clock_letter, generator_letter, packet_lines, packet_in, writing_refusal, write_packet, bytes_written, row_written, minus_zero, Holds}
 use Rattle.wire.specs.declared.packets.Format.{Format}
 use Rattle.wire.specs.declared.packets.Modulation.{Modulation}
 use Rattle.wire.specs.declared.packets.ClockSource.{ClockSource}
 use Rattle.wire.specs.declared.packets.Generator.{Generator}
 use Rattle.wire.specs.declared.packets.Packet.{Packet}
-use Rattle.wire.specs.declared.packets.PacketWritten.{PacketWritten}
-use Rattle.wire.specs.declared.packets.PacketRead.{PacketRead}
-use Rattle.wire.proofs.digits.Laws.{lt_or_le, and_left, and_right, or_left, or_right, picked, zero_or, below_both, digits_below, digits_length, written, read, clash}
+use Rattle.wire.proofs.digits.Laws.{lt_or_le, and_left, and_right, or_left, or_right, below_both, digits_below, digits_length, written, read, clash}
 use Rattle.wire.proofs.numbers.Laws.{given_zero, quiet_first}
-use Rattle.wire.proofs.packets.Read.{is_by, read_is, read_as_lem}
-use Rattle.wire.proofs.packets.Laws.{place_has, place_front, framed_row, mode_body, clock_body, generator_body, format_body, offset_body, kinds_one, kinds_two, kinds_cons, kinds_decimal, signed_read, seven_small, values_length, values_below}
+use Rattle.wire.proofs.numbers.Names.{given_number}
+use Rattle.wire.proofs.numbers.Names.{done_by}
+use Rattle.wire.proofs.packets.Read.{read_is, read_as_lem}
+use Rattle.wire.proofs.packets.Laws.{with_jam, place_has, place_front, framed_row, mode_body, format_read, clock_read, generator_read, offset_body, kinds_one, kinds_two, kinds_cons, kinds_decimal, signed_read, seven_small, values_length, values_below}
 
 -- WRITTEN, THEN READ
 
@@ -65,43 +65,38 @@ module _ (id : ℕ) (ds rest : List ℕ) (i : eqb id 0x17 ≡ false) (d : has 0x
   unfolding framed
   long = simp length-append (omega arith)
 
-  body_framed : read_framed row (suc (suc (length ds))) ≡ read_body id ds
-  unfolding read_framed read_body framed
+  body_framed : read_body (drop 1 (take (suc (suc (length ds))) row)) ≡ read_body (id ∷ ds)
+  unfolding framed
   body_framed =
-      ap (λ (b : List ℕ). read_as (given (body_lines (id ∷ b))) (meaning id b))
+      ap (λ (b : List ℕ). read_body (id ∷ b))
       (ap (take (length ds)) (append_assoc ds (0x17 ∷ []) rest) ∙ take-append_seam ds (0x17 ∷ rest))
 
-  pub framed_read : read_packet row ≡ read_body id ds
+  pub framed_read : read_packet row ≡ with_jam (read_body (id ∷ ds))
   unfolding framed
   framed_read =
       framed_row row (simp eqb-suc-zero) (suc (suc (length ds))) end_at (has_front 0x17 41 row (omega (arith, end_at)) (omega (arith, end_at, long)))
       (place_has 0x17 row ∙ lt-ltb (place_of 0x17 row) (length row) (omega (arith, end_at, long)))
-      ∙ body_framed
+      ∙ ap with_jam body_framed
 
--- letters
--- (of its kind, read back, no 0x17)
-format_letter_lem : (f : Format) → (is_format (letter_of_format f) ≡ true) × (format_of (letter_of_format f) ≡ f) × (eqb (letter_of_format f) 0x17 ≡ false)
-unfolding format_of
-format_letter_lem Format.A = (refl, refl, refl)
-format_letter_lem Format.B = (refl, refl, refl)
-format_letter_lem Format.C = (refl, refl, refl)
-format_letter_lem Format.N = (refl, refl, refl)
-format_letter_lem Format.X = (refl, refl, refl)
+-- no letter is 0x17
+format_end : (f : Format) → eqb (letter_of_format f) 0x17 ≡ false
+format_end Format.A = refl
+format_end Format.B = refl
+format_end Format.C = refl
+format_end Format.N = refl
+format_end Format.X = refl
 
-modulation_letter_lem : (m : Modulation) → (is_modulation (letter_of_modulation m) ≡ true) × (modulation_of (letter_of_modulation m) ≡ m) × (eqb (letter_of_modulation m) 0x17 ≡ false)
-unfolding modulation_of
-modulation_letter_lem Modulation.M = (refl, refl, refl)
-modulation_letter_lem Modulation.D = (refl, refl, refl)
+modulation_end : (m : Modulation) → eqb (letter_of_modulation m) 0x17 ≡ false
+modulation_end Modulation.M = refl
+modulation_end Modulation.D = refl
 
-clock_letter_lem : (c : ClockSource) → (is_clock (letter_of_clock c) ≡ true) × (clock_of (letter_of_clock c) ≡ c) × (eqb (letter_of_clock c) 0x17 ≡ false)
-unfolding clock_of
-clock_letter_lem ClockSource.External = (refl, refl, refl)
-clock_letter_lem ClockSource.Internal = (refl, refl, refl)
+clock_end : (c : ClockSource) → eqb (letter_of_clock c) 0x17 ≡ false
+clock_end ClockSource.External = refl
+clock_end ClockSource.Internal = refl
 
-generator_letter_lem : (g : Generator) → (is_generator (letter_of_generator g) ≡ true) × (generator_of (letter_of_generator g) ≡ g) × (eqb (letter_of_generator g) 0x17 ≡ false)
-unfolding generator_of
-generator_letter_lem Generator.B = (refl, refl, refl)
-generator_letter_lem Generator.H = (refl, refl, refl)
+generator_end : (g : Generator) → eqb (letter_of_generator g) 0x17 ≡ false
+generator_end Generator.B = refl
+generator_end Generator.H = refl
 
 -- digits
 values_ascii : (ds : List ℕ) → ascii_values (ascii ds) ≡ ds
@@ -131,23 +126,23 @@ unfolding sign_of
 sign_sound (pos n) = (refl, refl, refl)
 sign_sound (negsuc n) = (refl, refl, refl)
 
-number_ascii : (n : ℕ) → n ≤ 9999999 → read_number (ascii (digits 10 7 n)) ≡ Number.Is n
+number_ascii : (n : ℕ) → n ≤ 9999999 → read_number (ascii (digits 10 7 n)) ≡ Some n
 unfolding read_number
 number_ascii n h = simp (ascii_decimal (digits 10 7 n) (digits_below 10 (lit< tt) 7 n), values_ascii, written 10 (lit< tt) 7 n (omega arith))
 
-pair_read : (f : Format) (m : Modulation) → pair_means f m ≡ true → read_pair f (letter_of_modulation m) ≡ packet_read (Packet.H f m)
-unfolding read_pair
-pair_read f m e = simp ((modulation_letter_lem m).0, (modulation_letter_lem m).1, e)
-
-offset_read : (z : ℤ) → nat_abs z ≤ 9999999 → read_body 0x47 (sign_of z ∷ ascii (digits 10 7 (nat_abs z))) ≡ packet_read (Packet.G z)
-unfolding signed_read read_signed
+offset_read : (z : ℤ) → nat_abs z ≤ 9999999 → read_body (0x47 ∷ sign_of z ∷ ascii (digits 10 7 (nat_abs z))) ≡ Ok (Packet.G z)
+unfolding signed_read
 offset_read z h =
     offset_body (sign_of z ∷ ascii (digits 10 7 (nat_abs z))) (ap suc (ascii_length (digits 10 7 (nat_abs z)) ∙ digits_length 10 (lit< tt) 7 (nat_abs z)))
     ∙ ap (signed_read (sign_of z)) (number_ascii (nat_abs z) h)
     ∙ simp ((sign_sound z).0, (sign_sound z).1)
 
+jam_ok : (p : Packet) → with_jam (Ok p) ≡ Ok (packet_read p)
+unfolding with_jam
+jam_ok p = refl
+
 -- each packet's data is read as that packet
-data_read : (p : Packet) → fits p ≡ true → means p ≡ true → read_body (id_of p) (data_of p) ≡ packet_read p
+data_read : (p : Packet) → fits p ≡ true → means p ≡ true → read_body (id_of p ∷ data_of p) ≡ Ok p
 unfolding data_of
 data_read (Packet.A mode) f m =
     let e : 48 + mode - 48 ≡ mode = omega arith in
@@ -155,9 +150,9 @@ data_read (Packet.A mode) f m =
     ∙ simp (le-leb 48 (48 + mode) (omega arith), le-leb (48 + mode) 55 (omega (arith, leb-true mode 7 f)), e, m)
 data_read (Packet.G z) f m = offset_read z (leb-true (nat_abs z) 9999999 f)
 data_read (Packet.H f m) a b =
-    format_body (letter_of_format f ∷ letter_of_modulation m ∷ []) refl ∙ simp ((format_letter_lem f).0, (format_letter_lem f).1) (pair_read f m b)
-data_read (Packet.I c) f m = clock_body (letter_of_clock c ∷ []) refl ∙ simp ((clock_letter_lem c).0, (clock_letter_lem c).1)
-data_read (Packet.K g) f m = generator_body (letter_of_generator g ∷ []) refl ∙ simp ((generator_letter_lem g).0, (generator_letter_lem g).1)
+    sym (format_read (letter_of_format f ∷ letter_of_modulation m ∷ []) refl f m (format_letter f) (modulation_letter m) b)
+data_read (Packet.I c) f m = sym (clock_read (letter_of_clock c ∷ []) c (clock_letter c))
+data_read (Packet.K g) f m = sym (generator_read (letter_of_generator g ∷ []) g (generator_letter g))
 
 -- and holds no 0x17
 id_end : (p : Packet) → eqb (id_of p) 0x17 ≡ false
@@ -171,9 +166,9 @@ data_end : (p : Packet) → has 0x17 (data_of p) ≡ false
 unfolding data_of has
 data_end (Packet.A mode) = simp (ne_eqb (48 + mode) 0x17 (λ e. omega arith))
 data_end (Packet.G z) = simp ((sign_sound z).2, ascii_end)
-data_end (Packet.H f m) = simp ((format_letter_lem f).2, (modulation_letter_lem m).2)
-data_end (Packet.I c) = simp (clock_letter_lem c).2
-data_end (Packet.K g) = simp (generator_letter_lem g).2
+data_end (Packet.H f m) = simp (format_end f, modulation_end m)
+data_end (Packet.I c) = simp (clock_end c)
+data_end (Packet.K g) = simp (generator_end g)
 
 data_short : (p : Packet) → length (data_of p) ≤ 8
 unfolding data_of
@@ -184,8 +179,10 @@ data_short (Packet.I c) = lit≤ tt
 data_short (Packet.K g) = lit≤ tt
 
 -- a packet that can be written is read back, whatever stands behind it
-pub read_written : (p : Packet) → fits p ≡ true → means p ≡ true → (rest : List ℕ) → read_packet (bytes_of p ++ rest) ≡ packet_read p
-read_written p f m rest = framed_read (id_of p) (data_of p) rest (id_end p) (data_end p) (omega (arith, data_short p)) ∙ data_read p f m
+pub read_written : (p : Packet) → fits p ≡ true → means p ≡ true → (rest : List ℕ) → read_packet (bytes_of p ++ rest) ≡ Ok (packet_read p)
+read_written p f m rest =
+    framed_read (id_of p) (data_of p) rest (id_end p) (data_end p) (omega (arith, data_short p))
+    ∙ ap with_jam (data_read p f m) ∙ jam_ok p
 
 -- READ, THEN WRITTEN
 
@@ -206,7 +203,7 @@ place_is b (x ∷ xs) h = go (eqb x b) refl h (place_is b xs)
     go false e h f = f h
 
 -- the row, cut at its first 0x17
-module _ (row : List ℕ) (p : Packet) (h : read_packet row ≡ packet_read p) where
+module _ (row : List ℕ) (p : Packet) (h : read_packet row ≡ Ok (packet_read p)) where
   accepted : (packet_refusal row ≡ 0) × (packet_in row ≡ p)
   accepted = let r = read_is row p (needs_jam_off p) h in (r.0, r.1)
 
@@ -290,11 +287,11 @@ module _ (row : List ℕ) (p : Packet) (h : read_packet row ≡ packet_read p) w
   unfolding body_lines
   body_numbers = refl
 
-  reads_body : read_body id ds ≡ packet_read p
+  reads_body : read_body (id ∷ ds) ≡ Ok p
   unfolding read_body
   reads_body =
-      ap (λ (n : ℕ). read_as n (meaning id ds)) (ap (λ (b : List ℕ). given (body_lines b)) (sym body_cons) ∙ (given_zero (body_lines body) body_numbers).1 line_6.1)
-      ∙ ap packet_read accepted.1
+      ap (λ (n : ℕ). answered n (meaning id ds)) (ap (λ (b : List ℕ). given (body_lines b)) (sym body_cons) ∙ (given_zero (body_lines body) body_numbers).1 line_6.1)
+      ∙ ap Ok accepted.1
 
 -- id and data that read as a packet are that packet's own, or those of offset 0 with a minus
 record Own (id : ℕ) (ds : List ℕ) (p : Packet) : Type 0 where
@@ -351,10 +348,10 @@ two_of (d ∷ x ∷ []) l = refl
 two_of (d ∷ x ∷ y ∷ ds) l = absurd (omega arith)
 
 -- what an accepted body tells
-module _ (id : ℕ) (ds : List ℕ) (p : Packet) (h : read_body id ds ≡ packet_read p) where
+module _ (id : ℕ) (ds : List ℕ) (p : Packet) (h : read_body (id ∷ ds) ≡ Ok p) where
   got : (given (body_lines (id ∷ ds)) ≡ 0) × (meaning id ds ≡ p)
   unfolding read_body
-  got = let r = is_by (given (body_lines (id ∷ ds))) (meaning id ds) p (needs_jam_off p) (eqb (given (body_lines (id ∷ ds))) 0) refl h in (r.0, r.1)
+  got = done_by (given (body_lines (id ∷ ds))) (meaning id ds) p h
 
   -- none of its four lines holds
   l7 : ((eqb (length (id ∷ ds)) 0 || eqb (length (kinds_of id)) 0) ≡ false) × (quiet (8 if not (eqb (length ds) (length (kinds_of id))) ∷ 9 if not (of_kinds (kinds_of id) ds) ∷ 10 if not (means (meaning id ds)) ∷ []) ≡ true)
@@ -381,7 +378,7 @@ module _ (id : ℕ) (ds : List ℕ) (p : Packet) (h : read_body id ds ≡ packet
 
 -- id by id
 module _ (ds : List ℕ) (p : Packet) where
-  own_mode : read_body 0x41 ds ≡ packet_read p → Own 0x41 ds p
+  own_mode : read_body (0x41 ∷ ds) ≡ Ok p → Own 0x41 ds p
   unfolding kinds_of meaning data_of
   own_mode h =
       let d = get_or ds 0 0 in
@@ -393,7 +390,7 @@ module _ (ds : List ℕ) (p : Packet) where
       subst (Own 0x41 ds) (got 0x41 ds p h).1
       (record { fitting = le-leb (d - 48) 7 (omega arith); meant = meant 0x41 ds p h; bytes = inl (ap (framed 0x41) (one_of ds l ∙ ap (λ (x : ℕ). x ∷ []) q)) })
 
-  own_clock : read_body 0x49 ds ≡ packet_read p → Own 0x49 ds p
+  own_clock : read_body (0x49 ∷ ds) ≡ Ok p → Own 0x49 ds p
   unfolding kinds_of meaning data_of
   own_clock h =
       let l : length ds ≡ 1 = same_length 0x49 ds p h in
@@ -401,7 +398,7 @@ module _ (ds : List ℕ) (p : Packet) where
       subst (Own 0x49 ds) (got 0x49 ds p h).1
       (record { fitting = refl; meant = refl; bytes = inl (ap (framed 0x49) (one_of ds l ∙ ap (λ (x : ℕ). x ∷ []) (sym (clock_back (get_or ds 0 0) k)))) })
 
-  own_generator : read_body 0x4B ds ≡ packet_read p → Own 0x4B ds p
+  own_generator : read_body (0x4B ∷ ds) ≡ Ok p → Own 0x4B ds p
   unfolding kinds_of meaning data_of
   own_generator h =
       let l : length ds ≡ 1 = same_length 0x4B ds p h in
@@ -409,7 +406,7 @@ module _ (ds : List ℕ) (p : Packet) where
       subst (Own 0x4B ds) (got 0x4B ds p h).1
       (record { fitting = refl; meant = refl; bytes = inl (ap (framed 0x4B) (one_of ds l ∙ ap (λ (x : ℕ). x ∷ []) (sym (generator_back (get_or ds 0 0) k)))) })
 
-  own_format : read_body 0x48 ds ≡ packet_read p → Own 0x48 ds p
+  own_format : read_body (0x48 ∷ ds) ≡ Ok p → Own 0x48 ds p
   unfolding kinds_of meaning data_of
   own_format h =
       let f = get_or ds 0 0 in
@@ -455,7 +452,7 @@ cons_of : (ds : List ℕ) → 0 < length ds → ds ≡ get_or ds 0 0 ∷ drop 1 
 cons_of [] l = absurd (omega arith)
 cons_of (d ∷ ds) l = refl
 
-own_offset : (ds : List ℕ) (p : Packet) → read_body 0x47 ds ≡ packet_read p → Own 0x47 ds p
+own_offset : (ds : List ℕ) (p : Packet) → read_body (0x47 ∷ ds) ≡ Ok p → Own 0x47 ds p
 unfolding kinds_of meaning offset_of
 own_offset ds p h =
     let s = get_or ds 0 0 in
@@ -475,11 +472,11 @@ unknown : (id : ℕ) → eqb id 0x41 ≡ false → eqb id 0x47 ≡ false → eqb
 unfolding kinds_of
 unknown id a g i j k n = let q = simp (a, g, i, j, k) at n in let z : ◌≡◌ {A = ℕ} 0 1 = cc in omega arith
 
-own : (id : ℕ) (ds : List ℕ) (p : Packet) → read_body id ds ≡ packet_read p → Own id ds p
+own : (id : ℕ) (ds : List ℕ) (p : Packet) → read_body (id ∷ ds) ≡ Ok p → Own id ds p
 own id ds p h = go (eqb id 0x41) refl (eqb id 0x47) refl (eqb id 0x48) refl (eqb id 0x49) refl (eqb id 0x4B) refl (known id ds p h)
   where
-    case : (k : ℕ) → eqb id k ≡ true → (read_body k ds ≡ packet_read p → Own k ds p) → Own id ds p
-    case k e f = subst (λ (i : ℕ). (read_body i ds ≡ packet_read p) → Own i ds p) (sym (eqb-true id k e)) f h
+    case : (k : ℕ) → eqb id k ≡ true → (read_body (k ∷ ds) ≡ Ok p → Own k ds p) → Own id ds p
+    case k e f = subst (λ (i : ℕ). (read_body (i ∷ ds) ≡ Ok p) → Own i ds p) (sym (eqb-true id k e)) f h
 
     go : (a : Bool) → eqb id 0x41 ≡ a → (g : Bool) → eqb id 0x47 ≡ g → (i : Bool) → eqb id 0x48 ≡ i → (j : Bool) → eqb id 0x49 ≡ j → (k : Bool) → eqb id 0x4B ≡ k → eqb (length (kinds_of id)) 0 ≡ false → Own id ds p
     go true e g _ i _ j _ k _ n = case 0x41 e (own_mode ds p)
@@ -489,7 +486,7 @@ own id ds p h = go (eqb id 0x41) refl (eqb id 0x47) refl (eqb id 0x48) refl (eqb
     go false _ false _ false _ false _ true e n = case 0x4B e (own_generator ds p)
     go false a false g false i false j false k n = absurd (unknown id a g i j k n)
 
-holds : (row : List ℕ) (p : Packet) → read_packet row ≡ packet_read p → Holds row p
+holds : (row : List ℕ) (p : Packet) → read_packet row ≡ Ok (packet_read p) → Holds row p
 holds row p h =
     let o = own (id row p h) (ds row p h) p (reads_body row p h) in
     let rest = drop (suc (e row p h)) row in
@@ -504,24 +501,22 @@ holds row p h =
     }
 
 -- whatever is said of the jam beside it
-pub written_read : (row : List ℕ) (p : Packet) (needs : Bool) → read_packet row ≡ PacketRead.Is p needs → Holds row p
+pub written_read : (row : List ℕ) (p : Packet) (needs : Bool) → read_packet row ≡ Ok (record { packet = p; needs_jam_off = needs }) → Holds row p
 written_read row p needs h = holds row p (read_as_lem row p needs h)
 
 -- THE CALLS
 
 -- the number of writing is that of its table, and a refused writing writes nothing
-pub write_number : (p : Packet) (room : ℕ) → (write_packet p room).number ≡ writing_refusal p room
-unfolding write_packet
-write_number p room =
-    picked (λ (w : PacketWritten). w.number) (eqb (writing_refusal p room) 0) (packet_written 0 (length (bytes_of p))) (packet_written (writing_refusal p room) 0)
-    ∙ zero_or (writing_refusal p room) (eqb (writing_refusal p room) 0) refl
+pub write_number : (p : Packet) (room : ℕ) → number_of (write_packet p room) ≡ writing_refusal p room
+unfolding write_packet writing_refusal
+write_number p room = given_number (9 if not (fits p) ∷ 10 if not (means p) ∷ 14 if ltb room (length (bytes_of p)) ∷ []) (length (bytes_of p)) refl
 
-pub write_nothing : (p : Packet) (row : List ℕ) → ((write_packet p (length row)).number ≡ 0 → ⊥) → ((write_packet p (length row)).bytes ≡ 0) × (row_written p row ≡ row)
+pub write_nothing : (p : Packet) (row : List ℕ) → (number_of (write_packet p (length row)) ≡ 0 → ⊥) → (bytes_written (write_packet p (length row)) ≡ 0) × (row_written p row ≡ row)
 unfolding write_packet row_written
 write_nothing p row h = let e = ne_eqb (writing_refusal p (length row)) 0 (λ z. h (write_number p (length row) ∙ z)) in (simp e, simp e)
 
 -- a packet written into a row reads back from that row, whatever stood there
-pub read_back : (p : Packet) (row : List ℕ) → (write_packet p (length row)).number ≡ 0 → read_packet (row_written p row) ≡ packet_read p
+pub read_back : (p : Packet) (row : List ℕ) → number_of (write_packet p (length row)) ≡ 0 → read_packet (row_written p row) ≡ Ok (packet_read p)
 unfolding row_written writing_refusal
 read_back p row e =
     let z = sym (write_number p (length row)) ∙ e in
@@ -531,7 +526,7 @@ read_back p row e =
     (read_written p (not-false (fits p) a.0) (not-false (means p) b.0) (drop (length (bytes_of p)) row))
 
 -- each packet that is read can be written, into any row that has room for its bytes, and all of them are written
-pub write_read : (row : List ℕ) (p : Packet) (needs : Bool) → read_packet row ≡ PacketRead.Is p needs → (room : ℕ) → length (bytes_of p) ≤ room → write_packet p room ≡ packet_written 0 (length (bytes_of p))
+pub write_read : (row : List ℕ) (p : Packet) (needs : Bool) → read_packet row ≡ Ok (record { packet = p; needs_jam_off = needs }) → (room : ℕ) → length (bytes_of p) ≤ room → write_packet p room ≡ Ok (length (bytes_of p))
 unfolding write_packet writing_refusal
 write_read row p needs h room l = simp ((written_read row p needs h).fitting, (written_read row p needs h).meant, le-ltb room (length (bytes_of p)) l)
 
@@ -540,7 +535,7 @@ unfolding framed data_of sign_of ascii digits
 same_size = refl
 
 -- and the row from which it was read has that room
-pub room_read : (row : List ℕ) (p : Packet) (needs : Bool) → read_packet row ≡ PacketRead.Is p needs → length (bytes_of p) ≤ length row
+pub room_read : (row : List ℕ) (p : Packet) (needs : Bool) → read_packet row ≡ Ok (record { packet = p; needs_jam_off = needs }) → length (bytes_of p) ≤ length row
 room_read row p needs h =
     let o = written_read row p needs h in
     ⊎_elim

@@ -6,14 +6,18 @@ use mathlib.Core.Bool.{Bool, true, false, ◌&&◌}
 use mathlib.Core.List.{List, [], ◌∷◌, ◌++◌}
 use native.Mathlib.Nat.{div-one, div-div-eq-div-mul}
 use native.Mathlib.Omega.{arith}
-use lib.Dec.{leb, ltb, eqb, lit<, lit≤, leb-suc-suc, leb-suc-zero, eqb-suc-zero}
+use lib.Dec.{leb, ltb, eqb, lit<, leb-suc-suc, leb-suc-zero, eqb-suc-zero}
 use lib.ListN.{length, take, drop, get_or, replicate}
 use lib.Seq.{ext_get_or}
 use borrow.Author.Tests.{lt-ltb, le-leb, ltb-true, ltb-false, leb-true}
+use Rattle.std.specs.Prelude.{Ok, Err}
+use Rattle.wire.specs.declared.numbers.Refusal.{Refusal}
+use Rattle.wire.specs.declared.time.Ticks.{Ticks}
+use Rattle.wire.proofs.numbers.Names.{bad_digit_named, outside_time_named}
 use Rattle.wire.specs.Digits.{digits, num, below, packed, unpacked}
 use Rattle.wire.specs.Time.{ticks_of_day, hour_of, minute_of, second_of, fraction_of, tick_at, without_fraction}
-use Rattle.wire.specs.Words.{time_digits, pairs_of, words_of, words_or_zero, writable, decimal, field, day_in, hour_in, minute_in, second_in, fraction_in, tick_in, in_range, digits_refusal, read_digits, time_read, read_words}
-use Rattle.wire.proofs.digits.Laws.{and_left, and_right, and_assoc, and_true, below_at, below_both, below_append, below_more, digits_below, num_below, mod_div, digits_split, digits_mod_pow, digits_of_digits, unpacked_append, num_append, written, packed_length}
+use Rattle.wire.specs.Words.{time_digits, pairs_of, words_of, words_or_zero, writable, decimal, field, day_in, hour_in, minute_in, second_in, fraction_in, tick_in, in_range, digits_refusal, read_digits, moment, read_words}
+use Rattle.wire.proofs.digits.Laws.{and_left, and_right, and_assoc, and_true, below_at, below_both, below_append, digits_below, mod_div, digits_split, digits_mod_pow, digits_of_digits, unpacked_append, num_append, written, packed_length}
 
 -- what `writable` tests
 pub writable_day : (day tick : ℕ) → writable day tick ≡ true → (1 ≤ day) × (day ≤ 366)
@@ -72,11 +76,6 @@ pairs_below day tick h =
 pub pair_below : (day tick : ℕ) → tick < ticks_of_day → (ns : List ℕ) → ns ≡ pairs_of day tick → (i : ℕ) → i < 10 → get_or ns i 0 < 100
 unfolding pairs_of digits
 pair_below day tick h ns e i l = rw e (below_at 100 (pairs_of day tick) (pairs_below day tick h) i l)
-
--- the two digits of a number have eight bits
-pub pair_small : (n : ℕ) → num 16 (digits 10 2 n) < 256
-unfolding digits
-pair_small n = num_below 16 (lit< tt) (digits 10 2 n) (below_more 10 16 (lit≤ tt) (digits 10 2 n) (digits_below 10 (lit< tt) 2 n))
 
 -- two pairs are a word
 pub word_of_pairs : (x y a b : ℕ) → a ≡ num 16 (digits 10 2 x) → b ≡ num 16 (digits 10 2 y) → a * 256 + b ≡ num 16 (digits 10 2 x ++ digits 10 2 y)
@@ -202,7 +201,7 @@ module _ (a b c d e : ℕ) where
     pub range_in : in_range (day_in ds) (hour_in ds) (minute_in ds) (second_in ds) ≡ in_range (a % 16 * 100 + v) h m s
     range_in = cc (day_in_lem, hour_in_lem, minute_in_lem, second_in_lem)
 
-    pub time_in : (f t : ℕ) → f ≡ num 10 (digits 16 4 d ++ take 3 (digits 16 4 e)) → t ≡ tick_at h m s f → time_read 0 (a % 16 * 100 + v) t ≡ time_read 0 (day_in ds) (tick_in ds)
+    pub time_in : (f t : ℕ) → f ≡ num 10 (digits 16 4 d ++ take 3 (digits 16 4 e)) → t ≡ tick_at h m s f → moment (a % 16 * 100 + v) t ≡ moment (day_in ds) (tick_in ds)
     time_in f t ef et = cc (day_in_lem, hour_in_lem, minute_in_lem, second_in_lem, fraction_in_lem)
 
 -- the fraction by pairs of digits
@@ -231,17 +230,56 @@ module _ (ds : List ℕ) where
   abbrev range : Bool
   range = in_range (day_in ds) (hour_in ds) (minute_in ds) (second_in ds)
 
-  pub read_bad : decimal ds ≡ false → read_digits ds ≡ time_read 17 0 0
+  pub read_bad : decimal ds ≡ false → read_digits ds ≡ Err Refusal.BadDigit
   unfolding read_digits digits_refusal
-  read_bad e = simp e
+  read_bad e = simp (e, bad_digit_named)
 
-  pub read_outside : decimal ds ≡ true → range ≡ false → read_digits ds ≡ time_read 11 0 0
+  pub read_outside : decimal ds ≡ true → range ≡ false → read_digits ds ≡ Err Refusal.OutsideTime
   unfolding read_digits digits_refusal
-  read_outside e f = simp (e, f)
+  read_outside e f = simp (e, f, outside_time_named)
 
-  pub read_done : decimal ds ≡ true → range ≡ true → read_digits ds ≡ time_read 0 (day_in ds) (tick_in ds)
+  pub read_done : decimal ds ≡ true → range ≡ true → read_digits ds ≡ Ok (moment (day_in ds) (tick_in ds))
   unfolding read_digits digits_refusal
   read_done e f = simp (e, f)
+
+-- WHAT THE CODE COMES TO, BY ITS TESTS
+
+-- the test of five words is one for each word, and one for the last digit
+pub tested_words : (ws : List ℕ) → length ws ≡ 5 → get_or ws 0 0 < 65536 →
+    decimal (unpacked 16 4 ws)
+    ≡ (ltb (get_or ws 0 0) 10 && (below 10 (digits 16 4 (get_or ws 1 0)) && (below 10 (digits 16 4 (get_or ws 2 0)) && (below 10 (digits 16 4 (get_or ws 3 0)) && (below 10 (digits 16 4 (get_or ws 4 0)) && eqb (get_or ws 4 0 % 16) 0)))))
+tested_words ws l h = ap (λ (l : List ℕ). decimal (unpacked 16 4 l)) (five_of ws l) ∙ decimal_words (get_or ws 0 0) (get_or ws 1 0) (get_or ws 2 0) (get_or ws 3 0) (get_or ws 4 0) h
+
+pub words_bad : (ws : List ℕ) → decimal (unpacked 16 4 ws) ≡ false → read_words ws ≡ Err Refusal.BadDigit
+unfolding read_words
+words_bad ws x = read_bad (unpacked 16 4 ws) x
+
+module _ (ws : List ℕ) (v h m s : ℕ) (l : length ws ≡ 5) (x : decimal (unpacked 16 4 ws) ≡ true)
+    (ev : v ≡ num 10 (digits 16 2 (get_or ws 1 0 / 256))) (eh : h ≡ num 10 (digits 16 2 (get_or ws 1 0 % 256)))
+    (em : m ≡ num 10 (digits 16 2 (get_or ws 2 0 / 256))) (es : s ≡ num 10 (digits 16 2 (get_or ws 2 0 % 256))) where
+  abbrev five : List ℕ
+  five = get_or ws 0 0 ∷ get_or ws 1 0 ∷ get_or ws 2 0 ∷ get_or ws 3 0 ∷ get_or ws 4 0 ∷ []
+
+  same : read_words ws ≡ read_digits (unpacked 16 4 five)
+  unfolding read_words
+  same = ap (λ (l : List ℕ). read_digits (unpacked 16 4 l)) (five_of ws l)
+
+  good : decimal (unpacked 16 4 five) ≡ true
+  good = ap (λ (l : List ℕ). decimal (unpacked 16 4 l)) (sym (five_of ws l)) ∙ x
+
+  ranges : in_range (day_in (unpacked 16 4 five)) (hour_in (unpacked 16 4 five)) (minute_in (unpacked 16 4 five)) (second_in (unpacked 16 4 five)) ≡ in_range (get_or ws 0 0 % 16 * 100 + v) h m s
+  ranges = range_in (get_or ws 0 0) (get_or ws 1 0) (get_or ws 2 0) (get_or ws 3 0) (get_or ws 4 0) v h m s ev eh em es
+
+  pub words_outside : in_range (get_or ws 0 0 % 16 * 100 + v) h m s ≡ false → read_words ws ≡ Err Refusal.OutsideTime
+  words_outside r = same ∙ read_outside (unpacked 16 4 five) good (ranges ∙ r)
+
+  pub words_read : (f : ℕ) (t : Ticks) → in_range (get_or ws 0 0 % 16 * 100 + v) h m s ≡ true
+      → f ≡ num 10 (digits 16 4 (get_or ws 3 0) ++ take 3 (digits 16 4 (get_or ws 4 0))) → t.ticks ≡ tick_at h m s f
+      → read_words ws ≡ Ok (record { day = get_or ws 0 0 % 16 * 100 + v; tick = t })
+  words_read f t r ef et =
+      same
+      ∙ read_done (unpacked 16 4 five) good (ranges ∙ r)
+      ∙ ap Ok (sym (time_in (get_or ws 0 0) (get_or ws 1 0) (get_or ws 2 0) (get_or ws 3 0) (get_or ws 4 0) v h m s ev eh em es f t.ticks ef et))
 
 -- there are five of them
 pub words_five : (day tick : ℕ) → length (words_of day tick) ≡ 5

@@ -6,18 +6,20 @@ use mathlib.Core.Path.{◌≡◌, refl, sym, ◌∙◌, ap, ap₂}
 use mathlib.Core.Bool.{Bool, true, false, ◌&&◌, not}
 use mathlib.Core.List.{List, [], ◌∷◌, ◌++◌}
 use native.Mathlib.Omega.{arith}
-use lib.Dec.{leb, eqb, lit<, lit≤}
+use lib.Dec.{leb, lit<, lit≤}
 use lib.ListN.{length, take, drop, replicate, length-drop}
 use lib.Seq.{length-take-le}
 use borrow.Author.Tests.{lt-ltb, le-leb, leb-true, ne_eqb, not-false}
-use Rattle.wire.specs.declared.words.TimeRead.{TimeRead}
-use Rattle.wire.specs.declared.words.WordsWritten.{WordsWritten}
+use Rattle.std.specs.Prelude.{Ok, Err}
+use Rattle.wire.specs.declared.numbers.Refusal.{Refusal}
+use Rattle.wire.specs.declared.words.Moment.{Moment}
 use Rattle.wire.specs.Digits.{pick, digits, num, below, packed, unpacked}
-use Rattle.wire.specs.Numbers.{◌if◌, given}
+use Rattle.wire.specs.Numbers.{◌if◌, refusal, number_of, given_or}
 use Rattle.wire.proofs.numbers.Laws.{given_zero, quiet_first}
+use Rattle.wire.proofs.numbers.Names.{outside_time_named, given_number}
 use Rattle.wire.specs.Time.{ticks_of_day, hour_of, minute_of, second_of, fraction_of, tick_at}
-use Rattle.wire.specs.Words.{time_digits, words_of, writable, decimal, field, day_in, hour_in, minute_in, second_in, fraction_in, tick_in, in_range, digits_refusal, read_digits, time_read, read_words, zero_words, words_or_zero, write_words}
-use Rattle.wire.proofs.digits.Laws.{and_left, and_right, picked, zero_or, below_both, below_more, zeros, cut, digits_below, written, read_part, part_below, unpack_packed, pack_unpacked, unpacked_length}
+use Rattle.wire.specs.Words.{time_digits, words_of, writable, decimal, field, day_in, hour_in, minute_in, second_in, fraction_in, tick_in, in_range, digits_refusal, read_digits, moment, read_words, moment_read, zero_words, words_or_zero, write_words, words_written}
+use Rattle.wire.proofs.digits.Laws.{and_left, and_right, below_both, below_more, zeros, cut, digits_below, written, read_part, part_below, unpack_packed, pack_unpacked, unpacked_length}
 use Rattle.wire.proofs.time.Laws.{parts, hour_at, minute_at, second_at, fraction_at}
 use Rattle.wire.proofs.words.Laws.{writable_day, writable_tick, read_done}
 
@@ -70,12 +72,12 @@ module _ (day tick : ℕ) where
     pub tick_back : tick_in (time_digits day tick) ≡ tick
     tick_back = simp (hour_back, minute_back, second_back, fraction_back, parts)
 
-    pub read_written : read_words (words_of day tick) ≡ time_read 0 day tick
+    pub read_written : read_words (words_of day tick) ≡ Ok (moment day tick)
     unfolding read_words
     read_written =
         ap read_digits same_digits
         ∙ read_done (time_digits day tick) digits_decimal digits_in_range_lem
-        ∙ ap₂ (time_read 0) day_back tick_back
+        ∙ ap₂ (λ (d t : ℕ). Ok (moment d t)) day_back tick_back
 
 -- READ, THEN WRITTEN
 
@@ -154,14 +156,13 @@ module _ (ds : List ℕ) (l : length ds ≡ 20) (x : decimal ds ≡ true) (r : i
       simp (le-leb 1 (day_in ds) (omega arith), le-leb (day_in ds) 366 (omega arith), lt-ltb (tick_in ds) ticks_of_day (omega (arith, small)))
 
 -- the number of a reading is that of its table
-pub read_number_lem : (ws : List ℕ) → (read_words ws).number ≡ digits_refusal (unpacked 16 4 ws)
-unfolding read_words read_digits
+pub read_number_lem : (ws : List ℕ) → number_of (read_words ws) ≡ digits_refusal (unpacked 16 4 ws)
+unfolding read_words read_digits digits_refusal
 read_number_lem ws =
     let ds : List ℕ = unpacked 16 4 ws in
-    picked (λ (r : TimeRead). r.number) (eqb (digits_refusal ds) 0) (time_read 0 (day_in ds) (tick_in ds)) (time_read (digits_refusal ds) 0 0)
-    ∙ zero_or (digits_refusal ds) (eqb (digits_refusal ds) 0) refl
+    given_number (17 if not (decimal ds) ∷ 11 if not (in_range (day_in ds) (hour_in ds) (minute_in ds) (second_in ds)) ∷ []) (moment (day_in ds) (tick_in ds)) refl
 
-module _ (ws : List ℕ) (l : length ws ≡ 5) (b : below 65536 ws ≡ true) (n : (read_words ws).number ≡ 0) where
+module _ (ws : List ℕ) (l : length ws ≡ 5) (b : below 65536 ws ≡ true) (m : Moment) (n : read_words ws ≡ Ok m) where
   abbrev ds : List ℕ
   ds = unpacked 16 4 ws
 
@@ -169,66 +170,88 @@ module _ (ws : List ℕ) (l : length ws ≡ 5) (b : below 65536 ws ≡ true) (n 
   unfolding digits_refusal
   tested =
       let in_range_lem : Bool = in_range (day_in ds) (hour_in ds) (minute_in ds) (second_in ds) in
-      let q = (given_zero (17 if not (decimal ds) ∷ 11 if not in_range_lem ∷ []) refl).0 (sym (read_number_lem ws) ∙ n) in
+      let q = (given_zero (17 if not (decimal ds) ∷ 11 if not in_range_lem ∷ []) refl).0 (sym (read_number_lem ws) ∙ ap number_of n) in
       let a = quiet_first (not (decimal ds)) _ q in
       (not-false (decimal ds) a.0, not-false in_range_lem (quiet_first (not in_range_lem) true a.1).0)
 
   twenty : length ds ≡ 20
   twenty = unpacked_length 16 (lit< tt) 4 ws ∙ ap (λ (k : ℕ). k * 4) l
 
-  read_as_lem : read_words ws ≡ time_read 0 (day_in ds) (tick_in ds)
+  -- what was read is the time of the digits
+  read_as_lem : m ≡ moment (day_in ds) (tick_in ds)
   unfolding read_words
-  read_as_lem = read_done ds tested.0 tested.1
+  read_as_lem = cc (n, read_done ds tested.0 tested.1)
 
   -- words that are read are those of what was read
-  pub written_read : words_of (read_words ws).day (read_words ws).tick.ticks ≡ ws
+  pub written_read : words_of m.day m.tick.ticks ≡ ws
   unfolding words_of
   written_read =
-      ap (λ (t : TimeRead). words_of t.day t.tick.ticks) read_as_lem
+      ap (λ (t : Moment). words_of t.day t.tick.ticks) read_as_lem
       ∙ ap (packed 16 4 5) (digits_again ds twenty tested.0 tested.1)
       ∙ ap (λ (k : ℕ). packed 16 4 k ds) (sym l)
       ∙ pack_unpacked 16 (lit< tt) 4 ws b
 
-  pub read_writable : writable (read_words ws).day (read_words ws).tick.ticks ≡ true
-  read_writable = ap (λ (t : TimeRead). writable t.day t.tick.ticks) read_as_lem ∙ again_writable ds twenty tested.0 tested.1
+  pub read_writable : writable m.day m.tick.ticks ≡ true
+  read_writable = ap (λ (t : Moment). writable t.day t.tick.ticks) read_as_lem ∙ again_writable ds twenty tested.0 tested.1
 
 -- THE CALLS
 
-may_write : (day tick : ℕ) → (write_words day tick).number ≡ 0 → writable day tick ≡ true
+-- what writing comes to, by the ranges
+pub written_within : (day tick : ℕ) → writable day tick ≡ true → write_words day tick ≡ Ok (words_of day tick)
 unfolding write_words
-may_write day tick e = not-false (writable day tick) (quiet_first (not (writable day tick)) true ((given_zero (11 if not (writable day tick) ∷ []) refl).0 e)).0
+written_within day tick w = simp w
 
--- words that are written read back as the same day and tick of day
-pub read_back : (day tick : ℕ) → (write_words day tick).number ≡ 0 → read_words (write_words day tick).words ≡ time_read 0 day tick
-unfolding write_words words_or_zero
-read_back day tick e = let w = may_write day tick e in simp w (read_written day tick w)
+pub written_outside : (day tick : ℕ) → writable day tick ≡ false → write_words day tick ≡ Err Refusal.OutsideTime
+unfolding write_words
+written_outside day tick w = simp (w, outside_time_named)
+
+module _ (day tick : ℕ) (ws : List ℕ) (e : write_words day tick ≡ Ok ws) where
+  may_write : writable day tick ≡ true
+  may_write = go (writable day tick) refl
+    where
+      go : (t : Bool) → writable day tick ≡ t → t ≡ true
+      go true w = refl
+      go false w = cc (written_outside day tick w)
+
+  same_words : ws ≡ words_of day tick
+  same_words = cc (e, written_within day tick may_write)
+
+  -- words that are written read back as the same day and tick of day
+  pub read_back : read_words ws ≡ Ok (moment day tick)
+  read_back = ap read_words same_words ∙ read_written day tick may_write
 
 -- words that read are written again as the same words
-pub write_back : (ws : List ℕ) → length ws ≡ 5 → below 65536 ws ≡ true → (read_words ws).number ≡ 0
-    → write_words (read_words ws).day (read_words ws).tick.ticks ≡ record { number = 0; words = ws }
-unfolding write_words words_or_zero
-write_back ws l b n = simp (read_writable ws l b n, written_read ws l b n)
+pub write_back : (ws : List ℕ) → length ws ≡ 5 → below 65536 ws ≡ true → (m : Moment) → read_words ws ≡ Ok m → write_words m.day m.tick.ticks ≡ Ok ws
+write_back ws l b m n = written_within m.day m.tick.ticks (read_writable ws l b m n) ∙ ap Ok (written_read ws l b m n)
 
 -- so no two times of a year are written as the same words
-pub words_differ : (d t d' t' : ℕ) → (write_words d t).number ≡ 0 → (write_words d' t').number ≡ 0 → (write_words d t).words ≡ (write_words d' t').words → (d ≡ d') × (t ≡ t')
-words_differ d t d' t' w w' e =
-    let q : time_read 0 d t ≡ time_read 0 d' t' = sym (read_back d t w) ∙ ap read_words e ∙ read_back d' t' w' in
-    (ap (λ (r : TimeRead). r.day) q, ap (λ (r : TimeRead). r.tick.ticks) q)
+pub words_differ : (d t d' t' : ℕ) (ws : List ℕ) → write_words d t ≡ Ok ws → write_words d' t' ≡ Ok ws → (d ≡ d') × (t ≡ t')
+words_differ d t d' t' ws w w' =
+    let q : moment d t ≡ moment d' t' = cc (read_back d t ws w, read_back d' t' ws w') in
+    (ap (λ (m : Moment). m.day) q, ap (λ (m : Moment). m.tick.ticks) q)
 
--- beside a refusal stand zeros
-pub read_zeros : (ws : List ℕ) → ((read_words ws).number ≡ 0 → ⊥) → read_words ws ≡ time_read (digits_refusal (unpacked 16 4 ws)) 0 0
+-- beside a refusal stand zeros: reading is refused by the number of its table, writing by 11
+pub read_zeros : (ws : List ℕ) → (number_of (read_words ws) ≡ 0 → ⊥) → (read_words ws ≡ Err (refusal (digits_refusal (unpacked 16 4 ws)))) × (moment_read ws ≡ moment 0 0)
 unfolding read_words read_digits
-read_zeros ws h = simp (ne_eqb (digits_refusal (unpacked 16 4 ws)) 0 (λ e. h (read_number_lem ws ∙ e)))
+read_zeros ws h = let n = ne_eqb (digits_refusal (unpacked 16 4 ws)) 0 (λ e. h (read_number_lem ws ∙ e)) in (simp n, simp n)
 
-pub write_zeros : (day tick : ℕ) → ((write_words day tick).number ≡ 0 → ⊥) → write_words day tick ≡ record { number = 11; words = zero_words }
-unfolding write_words words_or_zero
-write_zeros day tick = go (writable day tick)
+pub write_zeros : (day tick : ℕ) → (number_of (write_words day tick) ≡ 0 → ⊥) → (write_words day tick ≡ Err Refusal.OutsideTime) × (words_written day tick ≡ zero_words)
+write_zeros day tick h = go (writable day tick) refl
   where
-    go : (t : Bool) → (given (11 if not t ∷ []) ≡ 0 → ⊥) → ◌≡◌ {A = WordsWritten} (record { number = given (11 if not t ∷ []); words = pick t (words_of day tick) zero_words }) (record { number = 11; words = zero_words })
-    go true h = absurd (h refl)
-    go false h = refl
+    go : (t : Bool) → writable day tick ≡ t → (write_words day tick ≡ Err Refusal.OutsideTime) × (words_written day tick ≡ zero_words)
+    go true w = absurd (h (ap number_of (written_within day tick w)))
+    go false w = let e = written_outside day tick w in (e, ap (given_or zero_words) e)
+
+-- the words alone are those that are written, and zeros where none are
+pub words_alone : (day tick : ℕ) → words_or_zero day tick ≡ words_written day tick
+unfolding words_or_zero
+words_alone day tick = go (writable day tick) refl
+  where
+    go : (t : Bool) → writable day tick ≡ t → pick t (words_of day tick) zero_words ≡ words_written day tick
+    go true w = sym (ap (given_or zero_words) (written_within day tick w))
+    go false w = sym (ap (given_or zero_words) (written_outside day tick w))
 
 -- five zero words are no time
-pub zero_unread : (read_words zero_words).number ≡ 11
+pub zero_unread : read_words zero_words ≡ Err Refusal.OutsideTime
 unfolding read_words read_digits digits_refusal decimal field in_range unpacked digits below num
-zero_unread = refl
+zero_unread = ap Err outside_time_named

@@ -1,9 +1,11 @@
 -- `blocks::write_block` meets its contract: refused by 18, or as many bytes stored as find a free place.
 -- Assumes nothing.
-use Prim.Native.Nat.{◌≤◌}
-use mathlib.Core.Path.{◌≡◌, sym, ◌∙◌}
+use Prim.Native.Nat.{ℕ, ◌≤◌}
+use mathlib.Core.Path.{◌≡◌, sym, ap, ◌∙◌}
 use native.Mathlib.Omega.{arith}
-use lib.ListN.{length}
+use lib.ListN.{length, length-take}
+use Rattle.std.specs.Prelude.{Result, ⊤}
+use Rattle.wire.specs.declared.numbers.Refusal.{Refusal}
 use Rattle.wire.proofs.digits.Laws.{below_each}
 use Rattle.card.proofs.registers.Laws.{queue_within}
 use Rattle.card.proofs.blocks.Laws.{block_18, block_3, block_0}
@@ -12,29 +14,32 @@ use Rattle.card.proofs.blocks.write_block.Goals as goal
 use Rattle.card.proofs.blocks.write_block.Goals.{then-free-row, else-free-row}
 
 pub overflow_sub-free : goal.overflow_sub-free
-overflow_sub-free c = queue_within _ (sym c.is_lawful.ensures ∙ c.if-is_lawful.true)
+overflow_sub-free c = queue_within _ (sym c.is_lawful.ensures ∙ c.if-not-is_lawful.false)
 
 pub store_row-requires : goal.store_row-requires
 store_row-requires c =
     let l : length c.args.card.queue.bytes ≡ 64 = search rules in
-    let f : c.args.card.queue.fill ≤ 64 = queue_within _ (sym c.is_lawful.ensures ∙ c.if-is_lawful.true) in
-    (l, elim c.if-free-row.branch [ then-free-row w ↦ omega arith | else-free-row w ↦ omega arith ], elim c.if-free-row.branch [ then-free-row w ↦ omega arith | else-free-row w ↦ omega arith ])
+    let f : c.args.card.queue.fill ≤ 64 = queue_within _ (sym c.is_lawful.ensures ∙ c.if-not-is_lawful.false) in
+    let n = length-take c.if-free-row.taken.0 c.args.row.now in (
+      l,
+      elim c.if-free-row.branch [
+        | then-free-row w ↦ let t = ap (λ (p : ℕ × Result ⊤ Refusal). p.0) w.taken-is in omega (arith, n, t)
+        | else-free-row w ↦ let t = ap (λ (p : ℕ × Result ⊤ Refusal). p.0) w.taken-is in omega (arith, n, t)
+      ],
+    )
 
-pub overflow_add-c : goal.overflow_add-c
-overflow_add-c c =
-    let f : c.args.card.queue.fill ≤ 64 = queue_within _ (sym c.is_lawful.ensures ∙ c.if-is_lawful.true) in
-    elim c.if-free-row.branch [ then-free-row w ↦ omega arith | else-free-row w ↦ omega arith ]
-
-pub returns-after-free-row : goal.returns-after-free-row
-returns-after-free-row c =
+pub returns : goal.returns
+returns c =
     let a = c.args in
-    let k = sym c.is_lawful.ensures ∙ c.if-is_lawful.true in
+    let k = sym c.is_lawful.ensures ∙ c.if-not-is_lawful.false in
     let l : length a.card.queue.bytes ≡ 64 = search rules in
-    let s = below_each 256 a.row.now (λ i. omega (arith, c.shared_slice_known-1.given i)) in
+    let s = below_each 256 a.row.now (λ i. search rules) in
+    let taken = λ (p : ℕ × Result ⊤ Refusal). p.0 in
+    let outcome = λ (p : ℕ × Result ⊤ Refusal). p.1 in
     elim c.if-free-row.branch [
-      | then-free-row w ↦ block_3 a.card a.row.now k l s _ _ _ c.store_row.ensures w.if-free-row.true w.number-is w.taken-is
-      | else-free-row w ↦ block_0 a.card a.row.now k l s _ _ _ c.store_row.ensures w.if-free-row.false w.number-is w.taken-is
+      | then-free-row w ↦ block_3 a.card a.row.now k l s _ _ c.store_row.ensures w.if-free-row.true _ (ap outcome w.taken-is) (ap taken w.taken-is)
+      | else-free-row w ↦ block_0 a.card a.row.now k l s _ _ c.store_row.ensures w.if-free-row.false _ (ap outcome w.taken-is) (ap taken w.taken-is)
     ]
 
-pub returns-else-is_lawful : goal.returns-else-is_lawful
-returns-else-is_lawful c = block_18 _ _ _ c.is_lawful.ensures c.if-is_lawful.false
+pub returns-then-not-is_lawful : goal.returns-then-not-is_lawful
+returns-then-not-is_lawful c = block_18 _ _ (sym c.is_lawful.ensures ∙ c.if-not-is_lawful.true)

@@ -1,19 +1,23 @@
 -- `waiting::pass` meets its contract: a refusal leaves clock and row, and else the row is filled and the clock moved on.
 -- Assumes nothing.
-use mathlib.Core.Path.{sym, ◌∙◌}
 use Rattle.clock.proofs.waiting.Answer as answer
 use Rattle.clock.proofs.waiting.pass.Goals as goal
 
-pub returns-then-number-ne-DONE : goal.returns-then-number-ne-DONE
-returns-then-number-ne-DONE c = rw c.refused.ensures (answer.refused _ _ _ _ c.pass_refusal-number.ensures c.if-number-ne-DONE.true)
-
 pub list-listed-requires : goal.list-listed-requires
-list-listed-requires c = answer.may_list _ _ _ (sym c.pass_refusal-number.ensures ∙ c.if-number-ne-DONE.false)
+list-listed-requires c = (answer.may_list _ _ _ c.in-Ok.ensures.1).2
 
-pub clock_later-later-requires : goal.clock_later-later-requires
-clock_later-later-requires c =
-    answer.may_move _ _ _ _ (sym c.pass_refusal-number.ensures ∙ c.if-number-ne-DONE.false) c.list-listed.ensures.0
+pub invariant_of-passed : goal.invariant_of-passed
+invariant_of-passed c =
+    let k = c.in-Ok.ensures in
+    record { within = (answer.may_move _ _ _ _ k.1 (rw (k.0.0, k.0.1) at c.list-listed.ensures.0)).1 }
 
-pub returns : goal.returns
-returns c =
-    answer.pass_answers _ _ _ _ _ _ (sym c.pass_refusal-number.ensures ∙ c.if-number-ne-DONE.false) c.list-listed.ensures.0 c.list-listed.ensures.1 c.clock_later-later.ensures
+pub returns-in-Ok : goal.returns-in-Ok
+returns-in-Ok c =
+    let k = c.in-Ok.ensures in
+    let l = rw (k.0.0, k.0.1) at c.list-listed.ensures.0 in
+    let r = rw (k.0.0, k.0.1) at c.list-listed.ensures.1 in
+    let t = rw k.0.0 at c.later.ensures in
+    rw c.done.ensures (answer.pass_answers _ _ _ _ _ _ k.1 l r t)
+
+pub returns-in-Err : goal.returns-in-Err
+returns-in-Err c = rw c.refused.ensures (answer.refused _ _ _ _ (c.in-Err.ensures.1, c.in-Err.ensures.0))

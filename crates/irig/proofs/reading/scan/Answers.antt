@@ -1,38 +1,25 @@
--- `reading::scan` meets its contract. The invariant: the elements before place i fit, and their number is added up. The measure is what is left of the hundred.
+-- `reading::scan` meets its contract. The invariant: the elements that came fit, and their number is added up.
 -- Assumes nothing.
+use Rattle.irig.proofs.reading.Laws.{scan_none, turn_marker, turn_plain}
+use mathlib.Core.Path.{refl}
 use native.Mathlib.Omega.{arith}
-use Rattle.irig.proofs.reading.Laws.{scan_none, scan_marker, scan_plain, marker_missing, element_above, scan_all, shift_low, sum_fits}
+use borrow.Author.Rules.{rules}
+use Rattle.std.proofs.lemmas.Slice.Zip.{zip_turn}
 use Rattle.irig.proofs.reading.scan.Goals as goal
-use Rattle.irig.proofs.reading.scan.Goals.{then-shift-eq-NO_SHIFT+else-e-ne-MARKER, else-shift-eq-NO_SHIFT+else-e-gt1}
 
-pub loop-i-init : goal.loop-i-init
-loop-i-init c = (omega arith, scan_none _)
+pub loop-shift-init : goal.loop-shift-init
+loop-shift-init c = scan_none _
 
-pub returns-then-e-ne-MARKER : goal.returns-then-e-ne-MARKER
-returns-then-e-ne-MARKER c = marker_missing _ c.shifts-shifts.ensures _ _ (omega arith) c.if-shift-eq-NO_SHIFT.true c.if-e-ne-MARKER.true
+pub loop-shift-preserved-in-2-1 : goal.loop-shift-preserved-in-2-1
+loop-shift-preserved-in-2-1 c =
+    let t = zip_turn c.shifts.result.now c.args.row.now c.loop-shift.yielded c.into_iter-shift-iterator.result c.loop-shift.shift-iterator c.next.new.self _ (search rules) (search rules) c.loop-shift.yielded_by _ c.in-Some.is c.next.ensures.steps in
+    let e = t.2 0 in
+    let f = t.3 0 in
+    turn_marker _ c.shifts.ensures _ _ _ (omega arith) _ _ refl c.loop-shift.invariant (cc (e, c.in-64-eq2.is-0)) (cc (f, c.in-64-eq2.is-1))
 
-pub returns-then-e-gt1 : goal.returns-then-e-gt1
-returns-then-e-gt1 c = element_above _ c.shifts-shifts.ensures _ _ (omega arith) c.if-shift-eq-NO_SHIFT.false c.if-e-gt1.true
-
-pub overflow_cast-number-else-shift-eq-NO_SHIFT : goal.overflow_cast-number-else-shift-eq-NO_SHIFT
-overflow_cast-number-else-shift-eq-NO_SHIFT c = let p = shift_low _ c.shifts-shifts.ensures c.args.row.now 0 _ (omega arith) c.if-shift-eq-NO_SHIFT.false in omega arith
-
-pub overflow_shl-number : goal.overflow_shl-number
-overflow_shl-number c = let p = shift_low _ c.shifts-shifts.ensures c.args.row.now 0 _ (omega arith) c.if-shift-eq-NO_SHIFT.false in omega arith
-
-pub overflow_add-number : goal.overflow_add-number
-overflow_add-number c = let s = sum_fits _ c.shifts-shifts.ensures _ _ _ (omega arith) c.loop-i.invariant.1 c.if-shift-eq-NO_SHIFT.false c.if-e-gt1.false in omega arith
-
-pub loop-i-preserved : goal.loop-i-preserved
-loop-i-preserved c =
-    let p = c.shifts-shifts.ensures in
-    let s = c.loop-i.invariant.1 in (
-      omega arith,
-      elim c.if-shift-eq-NO_SHIFT.branch [
-        | then-shift-eq-NO_SHIFT+else-e-ne-MARKER w ↦ rw w.number-is (scan_marker _ p _ _ c.loop-i.i (omega arith) s w.if-shift-eq-NO_SHIFT.true w.if-e-ne-MARKER.false)
-        | else-shift-eq-NO_SHIFT+else-e-gt1 w ↦ rw w.number-is (scan_plain _ p _ _ c.loop-i.i (omega arith) s w.if-shift-eq-NO_SHIFT.false w.if-e-gt1.false)
-      ],
-    )
-
-pub returns : goal.returns
-returns c = scan_all _ _ _ (omega arith) c.loop-i.invariant.1
+pub loop-shift-preserved : goal.loop-shift-preserved
+loop-shift-preserved c =
+    let t = zip_turn c.shifts.result.now c.args.row.now c.loop-shift.yielded c.into_iter-shift-iterator.result c.loop-shift.shift-iterator c.next.new.self _ (search rules) (search rules) c.loop-shift.yielded_by _ c.in-Some.is c.next.ensures.steps in
+    let e = t.2 0 in
+    let f = t.3 0 in
+    rw (c.from.ensures, e, f) (turn_plain _ c.shifts.ensures _ _ _ (omega arith) _ _ refl c.loop-shift.invariant (λ q. c.in_default.is-0.1 (cc (e, q))) (omega arith))

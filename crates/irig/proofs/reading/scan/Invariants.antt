@@ -1,11 +1,8 @@
--- `reading::scan` meets its contract. The invariant: the elements before place i fit, and their number is added up. The measure is what is left of the hundred.
+-- `reading::scan` meets its contract. The invariant: the elements that came fit, and their number is added up.
 -- Assumes nothing.
-use Prim.Native.Nat.{◌-◌, ◌≤◌}
+use lib.ListN.{length}
 use Rattle.irig.proofs.reading.Laws.{Scanning}
 use Rattle.irig.proofs.reading.scan.Given as goal
 
-abbrev pub invariant-loop-i : goal.invariant-loop-i
-invariant-loop-i l = (l.i ≤ 100) × Scanning l.row l.number l.i
-
-abbrev pub decreases-loop-i : goal.decreases-loop-i
-decreases-loop-i l = 100 - l.i
+abbrev pub invariant-loop-shift : goal.invariant-loop-shift
+invariant-loop-shift l = Scanning l.row l.number (length l.yielded)

@@ -1,26 +1,11 @@
--- `feeding::end_of` meets its contract. The invariant: no end among the i bytes that were looked at. The measure is what is left of the input.
+-- `feeding::end_of` meets its contract: the first 0x17, or the 41st byte.
 -- Assumes nothing.
-use native.Mathlib.Omega.{arith}
-use Rattle.listing.proofs.feeding.Ends.{looked_none, looked_last, looked_more, looked_all}
+use Rattle.std.proofs.Common.{rules}
+use Rattle.listing.proofs.feeding.Ends.{found_end, found_full}
 use Rattle.listing.proofs.feeding.end_of.Goals as goal
 
-pub loop-i-init : goal.loop-i-init
-loop-i-init c = looked_none _ _ c.requires
+pub returns-in-Some : goal.returns-in-Some
+returns-in-Some c = found_end _ _ c.min.result c.requires c.min.ensures c.in-Some.i (search rules) (search rules) (λ j h q. absurd (search rules))
 
-pub overflow_add-held : goal.overflow_add-held
-overflow_add-held c = omega (arith, c.loop-i.invariant.short)
-
-pub overflow_add-result : goal.overflow_add-result
-overflow_add-result c = omega (arith, c.loop-i.invariant.within)
-
-pub returns-then-is_last : goal.returns-then-is_last
-returns-then-is_last c = looked_last _ _ _ c.loop-i.invariant c.loop-i-test.true _ c.is_last.ensures c.if-is_last.true
-
-pub overflow_add-i : goal.overflow_add-i
-overflow_add-i c = omega (arith, c.loop-i.invariant.within)
-
-pub loop-i-preserved : goal.loop-i-preserved
-loop-i-preserved c = looked_more _ _ _ c.loop-i.invariant c.loop-i-test.true _ c.is_last.ensures c.if-is_last.false
-
-pub returns : goal.returns
-returns c = looked_all _ _ _ c.loop-i.invariant c.loop-i-test.false
+pub returns-in-None : goal.returns-in-None
+returns-in-None c = found_full _ _ c.min.result c.requires c.min.ensures c.if-held-front-eq41.true (search rules)

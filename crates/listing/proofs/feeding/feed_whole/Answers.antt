@@ -9,7 +9,7 @@ use lib.ListN.{length, take, drop}
 use Rattle.card.specs.declared.card.Card.{Card}
 use Rattle.laws.specs.Calls.{fed}
 use Rattle.listing.specs.Listing.{goes_on}
-use Rattle.listing.proofs.feeding.Going.{next_goes, next_within, behind_all, lined_length}
+use Rattle.listing.proofs.feeding.Going.{begins_next, behind_all, lined_length}
 use Rattle.listing.proofs.feeding.Whole.{listed, whole_held, whole_over}
 use Rattle.listing.proofs.feeding.feed_whole.Goals as goal
 
@@ -19,34 +19,30 @@ goes : (number written : ℕ) (new old : List ℕ) (t : Bool) → length new ≡
 goes number written new old t s e = ap (λ (n : ℕ). goes_on number (n - written)) (sym s) ∙ sym e
 
 pub list-listed-requires : goal.list-listed-requires
-list-listed-requires c =
-    let a = c.args in
-    let e = c.next_end-n.ensures in
-    let room = length a.row.now - a.at in
-    (c.fresh_card-fresh.ensures, omega (arith, e, next_within a.number room a.input.now), c.requires, λ z. next_goes a.number room a.input.now (omega (arith, e)))
+list-listed-requires c = (c.fresh_card-fresh.ensures, begins_next _ _ _ _ _ c.requires c.next_end-front.ensures)
 
 pub overflow_sub-row-2 : goal.overflow_sub-row-2
 overflow_sub-row-2 c =
-    let s = (listed _ _ _ _ _ _ _ c.list-listed.ensures c.next_end-n.ensures c.requires) in
+    let s = (listed _ _ _ _ _ _ _ c.list-listed.ensures c.next_end-front.ensures c.requires) in
     omega (arith, s.going.lined.fits, lined_length _ _ _ _ _ _ _ s.going.lined)
 
 pub slice_bounds-hold-count : goal.slice_bounds-hold-count
-slice_bounds-hold-count c = let s = (listed _ _ _ _ _ _ _ c.list-listed.ensures c.next_end-n.ensures c.requires) in s.going.within
+slice_bounds-hold-count c = let s = (listed _ _ _ _ _ _ _ c.list-listed.ensures c.next_end-front.ensures c.requires) in s.going.within
 
 pub slice_bounds-hold-start : goal.slice_bounds-hold-start
-slice_bounds-hold-start c = let s = (listed _ _ _ _ _ _ _ c.list-listed.ensures c.next_end-n.ensures c.requires) in s.going.within
+slice_bounds-hold-start c = let s = (listed _ _ _ _ _ _ _ c.list-listed.ensures c.next_end-front.ensures c.requires) in s.going.within
 
-pub returns-then-goes_on : goal.returns-then-goes_on
-returns-then-goes_on c =
-    let i = c.list-listed.result.taken in
-    let xs = c.args.input.now in
-    let s = (listed _ _ _ _ _ _ _ c.list-listed.ensures c.next_end-n.ensures c.requires) in
+pub returns-then-not-goes_on : goal.returns-then-not-goes_on
+returns-then-not-goes_on c =
+    let s = (listed _ _ _ _ _ _ _ c.list-listed.ensures c.next_end-front.ensures c.requires) in
     let g = goes _ _ _ _ _ (lined_length _ _ _ _ _ _ _ s.going.lined) c.goes_on.ensures in
-    whole_held _ _ _ _ _ _ _ _ s (g ∙ c.if-goes_on.true) _ (behind_all i xs) c.hold-card.result
-    (c.hold-card.ensures.card ∙ ap (λ (k : Card). fed k (take (length xs - i) (drop i xs))) c.fresh_card-fresh.ensures) c.hold-card.ensures.bytes _ c.stop.ensures
+    whole_over _ _ _ _ _ _ _ _ s (g ∙ c.if-not-goes_on.true) c.fresh_card-fresh.result c.fresh_card-fresh.ensures _ c.stop.ensures
 
 pub returns : goal.returns
 returns c =
-    let s = (listed _ _ _ _ _ _ _ c.list-listed.ensures c.next_end-n.ensures c.requires) in
+    let i = c.list-listed.result.taken in
+    let xs = c.args.input.now in
+    let s = (listed _ _ _ _ _ _ _ c.list-listed.ensures c.next_end-front.ensures c.requires) in
     let g = goes _ _ _ _ _ (lined_length _ _ _ _ _ _ _ s.going.lined) c.goes_on.ensures in
-    whole_over _ _ _ _ _ _ _ _ s (g ∙ c.if-goes_on.false) c.fresh_card-fresh.result c.fresh_card-fresh.ensures _ c.stop-2.ensures
+    whole_held _ _ _ _ _ _ _ _ s (g ∙ c.if-not-goes_on.false) _ (behind_all i xs) c.hold-card.result
+    (c.hold-card.ensures.card ∙ ap (λ (k : Card). fed k (take (length xs - i) (drop i xs))) c.fresh_card-fresh.ensures) c.hold-card.ensures.bytes _ c.stop-2.ensures

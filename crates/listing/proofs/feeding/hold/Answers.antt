@@ -10,6 +10,6 @@ use Rattle.listing.proofs.feeding.hold.Goals as goal
 pub returns : goal.returns
 returns c =
     record {
-      card = ap (λ (r : BlockAnswer). r.card) c.write_block-b.ensures ∙ block_fed _ _;
-      bytes = below_each 256 c.args.bytes.now (λ i. omega (arith, c.shared_slice_known-1.given i));
+      card = ap (λ (r : BlockAnswer). r.card) c.write_block.ensures ∙ block_fed _ _;
+      bytes = below_each 256 c.args.bytes.now (λ i. omega (arith, c.type_inv.bytes i));
     }

@@ -1,7 +1,6 @@
 -- `feeding::refill` meets its contract: the lent part is what stands in the queue.
 -- Assumes nothing.
-use Prim.Native.Nat.{ℕ, ◌-◌}
-use mathlib.Core.Path.{◌≡◌, ap₂, ◌∙◌}
+use mathlib.Core.Path.{◌≡◌, ap, ◌∙◌}
 use native.Mathlib.Omega.{arith}
 use lib.ListN.{length, take}
 use lib.Seq.{length-take-le}
@@ -14,11 +13,10 @@ pub returns : goal.returns
 returns c =
     let q = c.args.queue in
     let l : length q.bytes ≡ 64 = search rules in
-    let f : q.fill - 0 ≡ q.fill = omega arith in
     record {
       held = record {
-        card = c.hold.ensures.card ∙ ap₂ (λ (k : Card) (n : ℕ). fed k (take n q.bytes)) c.fresh_card.ensures f;
-        bytes = rw f at c.hold.ensures.bytes;
+        card = c.hold.ensures.card ∙ ap (λ (k : Card). fed k (take q.fill q.bytes)) c.fresh_card.ensures;
+        bytes = c.hold.ensures.bytes;
       };
       count = length-take-le q.fill q.bytes (omega (arith, l, c.requires));
     }

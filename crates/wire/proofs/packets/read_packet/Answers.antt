@@ -1,28 +1,32 @@
 -- `packets::read_packet` meets its contract: the frame's lines of the table first, then id and data.
 -- Assumes nothing.
-use mathlib.Core.Path.{sym}
-use borrow.Author.Tests.{eq-eqb, ne_eqb}
-use Rattle.wire.proofs.packets.Laws.{no_start, found_within, reads_framed, reads_5, reads_6}
+use mathlib.Core.Path.{sym, ◌∙◌}
+use native.Mathlib.Omega.{arith}
+use Rattle.wire.proofs.numbers.Names.{passed_on}
+use Rattle.wire.proofs.packets.Laws.{start_empty, start_other, reads_packet, reads_refusal, reads_5, reads_6}
 use Rattle.wire.proofs.packets.read_packet.Goals as goal
 
-pub returns-then-row-eq0 : goal.returns-then-row-eq0
-returns-then-row-eq0 c = sym (no_start _ (simp (eq-eqb _ _ c.if-row-eq0.true)))
+pub returns-in_default : goal.returns-in_default
+returns-in_default c = start_empty _ (omega arith)
 
-pub returns-then-row-ne1 : goal.returns-then-row-ne1
-returns-then-row-ne1 c = sym (no_start _ (simp (ne_eqb _ _ c.if-row-eq0.false, ne_eqb _ _ c.if-row-ne1.true)))
+pub returns-in_default-2 : goal.returns-in_default-2
+returns-in_default-2 c = start_other _ (omega arith) (λ e. omega arith)
 
-pub read_framed-requires : goal.read_framed-requires
-read_framed-requires c =
-    found_within c.args.row.now c.if-row-eq0.false c.if-row-ne1.false _ _ c.looked_at-upto.ensures c.end_of-end.ensures c.if-end-upto.true
+pub returns-then-looked_at-eq41 : goal.returns-then-looked_at-eq41
+returns-then-looked_at-eq41 c =
+    reads_5 c.args.row.now (omega arith) (omega arith) _ c.min-looked_at.ensures (sym c.end_of.ensures ∙ c.in_default-end_of.is) c.if-looked_at-eq41.true
 
-pub returns-then-end-upto : goal.returns-then-end-upto
-returns-then-end-upto c =
-    reads_framed c.args.row.now c.if-row-eq0.false c.if-row-ne1.false _ _ c.looked_at-upto.ensures c.end_of-end.ensures c.if-end-upto.true _ c.read_framed.ensures
+pub returns-else-looked_at-eq41 : goal.returns-else-looked_at-eq41
+returns-else-looked_at-eq41 c =
+    reads_6 c.args.row.now (omega arith) (omega arith) _ c.min-looked_at.ensures (sym c.end_of.ensures ∙ c.in_default-end_of.is) c.if-looked_at-eq41.false
 
-pub returns-then-row-ge41 : goal.returns-then-row-ge41
-returns-then-row-ge41 c =
-    reads_5 c.args.row.now c.if-row-eq0.false c.if-row-ne1.false _ _ c.looked_at-upto.ensures c.end_of-end.ensures c.if-end-upto.false c.if-row-ge41.true
+pub returns-in_err-packet : goal.returns-in_err-packet
+returns-in_err-packet c =
+    passed_on _ _ c.from_residual.ensures.1
+    ∙ reads_refusal c.args.row.now (omega arith) (omega arith) _ c.min-looked_at.ensures _ (sym c.end_of.ensures ∙ c.in-Some.is) _
+    (sym c.read_body.ensures ∙ c.in_err-packet.was)
 
 pub returns : goal.returns
 returns c =
-    reads_6 c.args.row.now c.if-row-eq0.false c.if-row-ne1.false _ _ c.looked_at-upto.ensures c.end_of-end.ensures c.if-end-upto.false c.if-row-ge41.false
+    reads_packet c.args.row.now (omega arith) (omega arith) _ c.min-looked_at.ensures _ (sym c.end_of.ensures ∙ c.in-Some.is) _ _
+    (sym c.read_body.ensures ∙ c.in_ok-packet.was) c.needs_jam_off.ensures

@@ -1,4 +1,4 @@
--- `packets::write_format` meets its contract: 10 by the test, and the bytes by `put_two`.
+-- `packets::write_format` meets its contract: 10 by the test, and the bytes by `put`.
 -- Assumes nothing.
 use Prim.Native.Nat.{ℕ}
 use mathlib.Core.Path.{refl, sym, ◌∙◌, ap₂}
@@ -14,5 +14,5 @@ returns-then-not-pair_means c = write_10 (Packet.H _ _) _ refl (sym c.pair_means
 pub returns : goal.returns
 unfolding data_of
 returns c =
-    write_put (Packet.H _ _) _ _ (ap₂ (λ (f m : ℕ). framed 0x48 (f ∷ m ∷ [])) c.format_letter.ensures c.modulation_letter.ensures)
-    refl (sym c.pair_means.ensures ∙ c.if-not-pair_means.false) _ _ c.put_two.ensures
+    write_put (Packet.H _ _) _ _ (ap₂ (λ (f m : ℕ). framed 0x48 (f ∷ m ∷ [])) c.letter.ensures c.letter-2.ensures)
+    refl (sym c.pair_means.ensures ∙ c.if-not-pair_means.false) _ _ c.put.ensures

@@ -1,4 +1,4 @@
--- `packets::write_mode` meets its contract: 9 and 10 by the tests, and the bytes by `put_one`.
+-- `packets::write_mode` meets its contract: 9 and 10 by the tests, and the bytes by `put`.
 -- Assumes nothing.
 use mathlib.Core.Path.{refl, sym, ◌∙◌}
 use borrow.Author.Tests.{le-leb, lt-leb}
@@ -16,4 +16,4 @@ returns-then-not-mode_means c = write_10 _ _ (le-leb _ _ c.if-mode-gt7.false) (s
 pub returns : goal.returns
 unfolding data_of
 returns c =
-    write_put (Packet.A _) _ _ refl (le-leb _ _ c.if-mode-gt7.false) (sym c.mode_means.ensures ∙ c.if-not-mode_means.false) _ _ c.put_one.ensures
+    write_put (Packet.A _) _ _ refl (le-leb _ _ c.if-mode-gt7.false) (sym c.mode_means.ensures ∙ c.if-not-mode_means.false) _ _ c.put.ensures
