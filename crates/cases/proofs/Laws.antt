@@ -1,54 +1,58 @@
--- One byte of a text: what it does to the number that is looked for. Assumes nothing.
-use Prim.Native.Nat.{ℕ, zero, suc, ◌+◌, ◌-◌, ◌≤◌, ◌<◌}
+-- The parts of a text between its spaces, and the number that a part is. Assumes nothing.
+use Prim.Native.Nat.{ℕ, zero, suc, ◌≤◌}
 use mathlib.Core.Path.{◌≡◌, refl, sym, ap, ◌∙◌}
-use Rattle.std.proofs.Common.{◌≢◌}
-use mathlib.Core.List.{List, ◌∷◌}
-use native.Mathlib.Numerals.{add-one}
-use native.Mathlib.Omega.{arith}
-use lib.ListN.{length, drop, get_or, drop_of_length-le}
-use lib.Seq.{drop-cons}
-use borrow.Author.Tests.{ne_eqb}
+use mathlib.Core.Bool.{Bool, true, false, cond}
+use mathlib.Core.List.{List, [], ◌∷◌}
+use lib.Dec.{eqb}
+use lib.ListN.{length, drop, drop_of_length-le}
+use Rattle.std.proofs.Common.{Option, None, Some}
+use Rattle.std.specs.Option.{unwrap_or, option_map}
+use Rattle.std.specs.List.{fold, slice_get, slice_split, onto_first}
+use Rattle.wire.specs.Digits.{pick}
 use Rattle.cases.specs.Numbers.{piece_at, with_digit, with_digits, number_at}
+
+-- the part at a place; empty where there is none
+abbrev part : ℕ → List (List ℕ) → List ℕ
+part place parts = unwrap_or (slice_get parts place) []
+
+-- a byte in front ends the first part if it is a space, and else joins it
+first : (space : Bool) (b : ℕ) (parts : List (List ℕ)) (xs : List ℕ) → part 0 parts ≡ xs → part 0 (cond space ([] ∷ parts) (onto_first b parts)) ≡ pick space [] (b ∷ xs)
+first true b parts xs e = refl
+first false b [] xs e = ap (λ (ys : List ℕ). b ∷ ys) e
+first false b (p ∷ parts) xs e = ap (λ (ys : List ℕ). b ∷ ys) e
+
+-- a space in front puts each later part one place on, and another byte changes none
+later : (space : Bool) (b place : ℕ) (parts : List (List ℕ)) (xs ys : List ℕ) → part place parts ≡ xs → part (suc place) parts ≡ ys → part (suc place) (cond space ([] ∷ parts) (onto_first b parts)) ≡ pick space xs ys
+later true b place parts xs ys e f = e
+later false b place [] xs ys e f = f
+later false b place (p ∷ parts) xs ys e f = f
+
+piece_part : (place : ℕ) (text : List ℕ) → part place (slice_split (λ b. eqb b 32) text) ≡ piece_at place text
+unfolding piece_at
+piece_part zero [] = refl
+piece_part (suc place) [] = refl
+piece_part zero (b ∷ bs) = first (eqb b 32) b _ _ (piece_part 0 bs)
+piece_part (suc place) (b ∷ bs) = later (eqb b 32) b place (slice_split (λ x. eqb x 32) bs) _ _ (piece_part place bs) (piece_part (suc place) bs)
+
+digits_fold : (n : ℕ) (bs : List ℕ) → fold with_digit n bs ≡ with_digits n bs
+unfolding with_digits
+digits_fold n [] = refl
+digits_fold n (b ∷ bs) = digits_fold (with_digit n b) bs
+
+-- what stands in for a part that is not there is empty
+part_or : {A : Type 0} (r : Option A) (d : A) (v : A → List ℕ) (parts : List (List ℕ)) (place : ℕ) → option_map v r ≡ slice_get parts place → v d ≡ [] → v (unwrap_or r d) ≡ part place parts
+part_or None d v parts place e z = z ∙ ap (λ (o : Option (List ℕ)). unwrap_or o []) e
+part_or (Some x) d v parts place e z = ap (λ (o : Option (List ℕ)). unwrap_or o []) e
+
+-- what is read of a part, or of nothing where there is none
+pub number_of_part : {A : Type 0} (r : Option A) (d : A) (v : A → List ℕ) (place : ℕ) (text : List ℕ) → option_map v r ≡ slice_get (slice_split (λ b. eqb b 32) text) place → v d ≡ [] → fold with_digit 0 (v (unwrap_or r d)) ≡ number_at place text
+number_of_part r d v place text e z = ap (fold with_digit 0) (part_or r d v (slice_split (λ b. eqb b 32) text) place e z ∙ piece_part place text) ∙ digits_fold 0 (piece_at place text)
 
 -- what is looked for in the rest of a text is the number, with so many spaces to come and so much of it read
 abbrev pub Found : List ℕ → ℕ → ℕ → ℕ → ℕ → Type 0
 Found text place left n i = with_digits n (piece_at left (drop i text)) ≡ number_at place text
 
--- a byte of the number joins it
-goes_in : (n b : ℕ) (bs : List ℕ) → b ≢ 32 → with_digits n (piece_at 0 (b ∷ bs)) ≡ with_digits (with_digit n b) (piece_at 0 bs)
+-- behind the last byte it is found
+pub found_all_lem : (text : List ℕ) (place left n i : ℕ) → length text ≤ i → Found text place left n i → n ≡ number_at place text
 unfolding piece_at with_digits
-goes_in n b bs ne = rw (ne_eqb b 32 ne)
-
--- a space is one of those to come
-passes : (left n : ℕ) (bs : List ℕ) → left ≢ 0 → with_digits n (piece_at left (32 ∷ bs)) ≡ with_digits n (piece_at (left - 1) bs)
-unfolding piece_at
-passes zero n bs ne = absurd (ne refl)
-passes (suc left) n bs ne = ap (λ (k : ℕ). with_digits n (piece_at k bs)) (let e : left ≡ suc left - 1 = omega arith in e)
-
--- any other byte before the number is passed over
-goes_by : (left n b : ℕ) (bs : List ℕ) → left ≢ 0 → b ≢ 32 → with_digits n (piece_at left (b ∷ bs)) ≡ with_digits n (piece_at left bs)
-unfolding piece_at
-goes_by zero n b bs nz ne = absurd (nz refl)
-goes_by (suc left) n b bs nz ne = rw (ne_eqb b 32 ne)
-
--- the same at a place of the text
-at_place : (text : List ℕ) (left n i : ℕ) → i < length text → with_digits n (piece_at left (get_or text i 0 ∷ drop (i + 1) text)) ≡ with_digits n (piece_at left (drop i text))
-at_place text left n i l = ap (λ (bs : List ℕ). with_digits n (piece_at left bs)) (let d : get_or text i 0 ∷ drop (i + 1) text ≡ drop i text = rw add-one (sym (drop-cons text i 0 l)) in d)
-
--- the number ends at a space, if none is to come
-pub found_here : (text : List ℕ) (place left n i : ℕ) → Found text place left n i → i < length text → get_or text i 0 ≡ 32 → left ≡ 0 → n ≡ number_at place text
-unfolding piece_at with_digits
-found_here text place left n i f l b z = (let e : n ≡ with_digits n (piece_at left (get_or text i 0 ∷ drop (i + 1) text)) = rw (z, b) in e) ∙ at_place text left n i l ∙ f
-
-pub found_in : (text : List ℕ) (place left n i : ℕ) → Found text place left n i → i < length text → get_or text i 0 ≢ 32 → left ≡ 0 → Found text place left (with_digit n (get_or text i 0)) (i + 1)
-found_in text place left n i f l b z = rw z (sym (goes_in n (get_or text i 0) (drop (i + 1) text) b)) ∙ at_place text left n i l ∙ f
-
-pub found_past : (text : List ℕ) (place left n i : ℕ) → Found text place left n i → i < length text → get_or text i 0 ≡ 32 → left ≢ 0 → Found text place (left - 1) n (i + 1)
-found_past text place left n i f l b nz = sym (passes left n (drop (i + 1) text) nz) ∙ rw (← b) (at_place text left n i l) ∙ f
-
-pub found_by : (text : List ℕ) (place left n i : ℕ) → Found text place left n i → i < length text → get_or text i 0 ≢ 32 → left ≢ 0 → Found text place left n (i + 1)
-found_by text place left n i f l b nz = sym (goes_by left n (get_or text i 0) (drop (i + 1) text) nz b) ∙ at_place text left n i l ∙ f
-
-pub found_all_lem : (text : List ℕ) (place left n i : ℕ) → Found text place left n i → length text ≤ i → n ≡ number_at place text
-unfolding piece_at with_digits
-found_all_lem text place left n i f l = sym (ap (λ (bs : List ℕ). with_digits n (piece_at left bs)) (drop_of_length-le text l)) ∙ f
+found_all_lem text place left n i l f = sym (ap (λ (bs : List ℕ). with_digits n (piece_at left bs)) (drop_of_length-le text l)) ∙ f

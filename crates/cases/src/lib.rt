@@ -18,21 +18,11 @@ fn with_digit(n: u64, b: u8) -> u64
 }
 
 // The number behind so many spaces; 0 where there is none.
-#[tactic(auto, using(crate::proofs::Laws::found_here, crate::proofs::Laws::found_in, crate::proofs::Laws::found_past, crate::proofs::Laws::found_by, crate::proofs::Laws::found_all_lem))]
 pub fn number_at(text: &[u8], place: usize) -> u64
     ensures { result ≡ number_at place text.now }
 {
-    let mut left = place;
-    let mut n: u64 = 0;
-    for &b in text {
-        match b {
-            b' ' if left == 0 => return n,
-            b' ' => left -= 1,
-            _ if left == 0 => n = with_digit(n, b),
-            _ => {}
-        }
-    }
-    n
+    let digits = text.split(|&b| b == b' ').nth(place).unwrap_or(&[]);
+    digits.iter().fold(0, |n, &b| with_digit(n, b))
 }
 
 // A type of whole numbers that holds so many, and the one of them that a number of 64 bits ends in.

@@ -5,10 +5,7 @@ ghost use Rattle.clock.specs.Sources.{Gap, Rhythm, Ready, second_on, strobe_on};
 
 use crate::clock::{Periodic, Strobe};
 use crate::lawful::LawfulClock;
-use wire::time::{TICKS_OF_DAY, Ticks};
-
-// The ticks of a second.
-const SECOND: u64 = 10_000_000;
+use wire::time::{TICKS_OF_DAY, TICKS_OF_SECOND, Ticks};
 
 // The ticks from each fall of the periodic output to the one after.
 pub(crate) fn period_of(n1: u16, n2: u16) -> u64
@@ -58,7 +55,7 @@ impl LawfulClock {
     fn second(self) -> Source
         ensures { Rhythm (second_on self.clock.time) 0 result }
     {
-        Source::above(self.clock.time.tick.ticks, SECOND, 0)
+        Source::above(self.clock.time.tick.ticks, TICKS_OF_SECOND, 0)
     }
 
     // The strobe from now on.
@@ -69,7 +66,7 @@ impl LawfulClock {
         match self.clock.strobe {
             Strobe::Off => Source::OFF,
             Strobe::Daily(ms) => Source::above(tick, TICKS_OF_DAY, Ticks::from(ms).ticks),
-            Strobe::EachSecond(ms) => Source::above(tick, SECOND, Ticks::from(ms).ticks),
+            Strobe::EachSecond(ms) => Source::above(tick, TICKS_OF_SECOND, Ticks::from(ms).ticks),
         }
     }
 

@@ -8,14 +8,14 @@ pub(crate) const SMALLEST: u32 = 2;
 pub(crate) const LARGEST: u32 = 65_535;
 
 // Two dividers, as the periodic output takes them.
-#[derive(Clone, Copy, Debug, PartialEq, Eq, Default)]
+#[derive(Clone, Copy, Debug, PartialEq, Eq)]
 pub struct Pair {
     pub n1: u32,
     pub n2: u32,
 }
 
 // A pair measured against a wanted period: its own, and how far the two are apart, in nanoseconds.
-#[derive(Clone, Copy, Debug, PartialEq, Eq, Default)]
+#[derive(Clone, Copy, Debug, PartialEq, Eq)]
 pub struct Nearest {
     pub pair: Pair,
     pub period: u64,

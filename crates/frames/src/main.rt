@@ -11,6 +11,7 @@ use crate::lines::{Lines, put_line, write_out};
 use irig::stream::{Stream, fresh_stream, take_row};
 use std::io;
 use std::io::{Cursor, Read};
+use std::ops::ControlFlow;
 
 // The stream after a part of the input, and how many elements were taken of the whole input. 64 bits count more elements than any input has; behind so many the count would
 // begin again at 0.
@@ -20,23 +21,24 @@ struct Kept {
     taken: u64,
 }
 
-// Takes a part of the input, frame by frame, and writes its lines out. No call is refused, or takes nothing of a row that has elements; one that did would be the end, with nothing kept.
+// Takes a part of the input, frame by frame, and writes its lines out. No call is refused, or takes nothing of a row that has elements; one that did would break off, with nothing
+// written.
 #[tactic(auto, using(crate::proofs::Laws::given_within))]
 fn take_part(
     rt: &impl Print,
-    mut kept: Kept,
+    kept: &mut Kept,
     part: &[u8],
     lines: &mut Lines,
-) -> io::Result<Option<Kept>> {
+) -> io::Result<ControlFlow<()>> {
     let mut rest = part;
     while !rest.is_empty() {
         let answer = take_row(kept.stream, rest);
         let t = match answer.outcome {
             Ok(t) if t.taken != 0 => t,
-            _ => return Ok(None),
+            _ => return Ok(ControlFlow::Break(())),
         };
         rest = &rest[t.taken..];
-        kept = Kept {
+        *kept = Kept {
             stream: answer.after,
             taken: kept.taken.wrapping_add(t.taken as u64),
         };
@@ -45,7 +47,7 @@ fn take_part(
         }
     }
     write_out(rt, lines)?;
-    Ok(Some(kept))
+    Ok(ControlFlow::Continue(()))
 }
 
 // Takes all of the input: a read that fails or gives nothing is the end. Nothing says that an input ends, so the loop counts its turns, up to a number that no run uses up.
@@ -61,12 +63,8 @@ fn run(
     };
     for _ in 0..u64::MAX {
         let n = reader.read(input).unwrap_or(0);
-        if n == 0 {
+        if n == 0 || take_part(rt, &mut kept, &input[..n], lines)?.is_break() {
             break;
-        }
-        match take_part(rt, kept, &input[..n], lines)? {
-            Some(next) => kept = next,
-            None => break,
         }
     }
     Ok(())

@@ -5,6 +5,7 @@ ghost use Rattle.irig.specs.Reading.{read_frame, scanned, words_in};
 
 use crate::table::{ELEMENTS, MARKER, NO_SHIFT, shifts};
 use wire::numbers::Refusal;
+use wire::time::TICKS_OF_SECOND;
 use wire::words::{Moment, read_words};
 
 // What each set spare element adds: all fields together stay below it.
@@ -53,7 +54,7 @@ pub fn read_frame(row: &[u8]) -> Result<Moment, Refusal>
         return Err(Refusal::SpareSet);
     }
     let moment = read_digits(number)?;
-    if moment.tick.ticks != (number >> 36) * 10_000_000 {
+    if moment.tick.ticks != (number >> 36) * TICKS_OF_SECOND {
         return Err(Refusal::SecondsDiffer);
     }
     Ok(moment)

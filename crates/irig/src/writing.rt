@@ -9,7 +9,7 @@ use crate::table::{ELEMENTS, MARKER, NO_SHIFT, shifts};
 use card::card::Card;
 use card::lawful::is_lawful;
 use wire::numbers::Refusal;
-use wire::time::Ticks;
+use wire::time::{TICKS_OF_SECOND, Ticks};
 use wire::words::words_of;
 
 // The number that holds a time's fields: the digits as its words have them, and above them the seconds of the day.
@@ -21,7 +21,7 @@ fn fields_of(day: u16, tick: Ticks) -> u64
     let [hundreds, days_and_hours, minutes_and_seconds, ..] = words_of(day, tick);
     let days = u64::from(hundreds) * 65_536 + u64::from(days_and_hours);
     let digits = days * 65_536 + u64::from(minutes_and_seconds);
-    tick.ticks / 10_000_000 * 68_719_476_736 + digits
+    tick.ticks / TICKS_OF_SECOND * 68_719_476_736 + digits
 }
 
 // An element, by its shift in the number.

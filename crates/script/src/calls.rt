@@ -101,27 +101,24 @@ fn told_line(rt: &impl Print, card: Card) -> io::Result<Card> {
     Ok(card)
 }
 
-fn told_waited(rt: &impl Print, a: Answer<Card, Waited>, row: &[u64; 10]) -> io::Result<Card> {
-    put(rt, number_of(&a.outcome))?;
-    match a.outcome {
+// A wait by value or in place, with ten places, of which so many are lent.
+fn told_wait<W: Fn(Card, Ticks, &mut [u64]) -> Answer<Card, Waited>>(
+    rt: &impl Print,
+    card: Card,
+    text: &[u8],
+    wait: W,
+) -> io::Result<Card>
+    requires { W.IsAlwaysCallable wait }
+{
+    let mut row = [UNTOUCHED; 10];
+    let w = wait(card, ticks_at(text, 2), &mut row[..count_at(text, 10)]);
+    put(rt, number_of(&w.outcome))?;
+    match w.outcome {
         Ok(waited) => print!(rt; " {} {}", waited.passed.ticks, waited.written)?,
         Err(_) => print!(rt; " 0 0")?,
     }
-    put_all(rt, row)?;
-    Ok(a.after)
-}
-
-// Ten places, of which so many are lent.
-fn told_wait(rt: &impl Print, card: Card, text: &[u8]) -> io::Result<Card> {
-    let mut row = [UNTOUCHED; 10];
-    let w = wait(card, ticks_at(text, 2), &mut row[..count_at(text, 10)]);
-    told_waited(rt, w, &row)
-}
-
-fn told_wait_in_place(rt: &impl Print, card: Card, text: &[u8]) -> io::Result<Card> {
-    let mut row = [UNTOUCHED; 10];
-    let w = in_place(card, ticks_at(text, 2), &mut row[..count_at(text, 10)]);
-    told_waited(rt, w, &row)
+    put_all(rt, &row)?;
+    Ok(w.after)
 }
 
 // Twelve places, of which so many are lent.
@@ -199,8 +196,8 @@ fn called_clock(rt: &impl Print, call: u8, card: Card, text: &[u8]) -> io::Resul
         b's' => told(rt, set_strobe(card, StrobeAt::EachSecond(at(text, 1)))),
         b'a' => told(rt, set_strobe(card, daily(text))),
         b'z' => told(rt, set_strobe(card, StrobeAt::Off)),
-        b'n' => told_wait(rt, card, text),
-        b'i' => told_wait_in_place(rt, card, text),
+        b'n' => told_wait(rt, card, text, wait),
+        b'i' => told_wait(rt, card, text, in_place),
         _ => Ok(changed(call, card, text)),
     }
 }

@@ -4,7 +4,7 @@ use card::registers::read_register;
 use card::saved::save;
 use card::waiting::{Waited, wait};
 use wire::numbers::{Refusal, number_of};
-use wire::time::Ticks;
+use wire::time::{TICKS_OF_SECOND, Ticks};
 
 // A sum with one more answer, of any width.
 pub(crate) fn mixed(sum: u64, answer: impl Into<u64>) -> u64 {
@@ -53,7 +53,13 @@ fn with_settings(sum: u64, card: Card) -> u64 {
 // A sum with the next falls, which tell strobe and periodic output.
 fn with_falls(sum: u64, card: Card) -> u64 {
     let mut row = [0u64; 4];
-    let w = wait(card, Ticks { ticks: 10_000_000 }, &mut row);
+    let w = wait(
+        card,
+        Ticks {
+            ticks: TICKS_OF_SECOND,
+        },
+        &mut row,
+    );
     with_wait(sum, w.outcome, &row)
 }
 

@@ -14,8 +14,8 @@ const STEP: u64 = 80_000_000;
 fn fill_row(row: &mut [u64], first: u64)
     requires { (length row.old ≤ 1000000) × (first < 4294967296) }
 {
-    for i in 0..row.len() {
-        row[i] = first + (i as u64) * STEP;
+    for (i, place) in row.iter_mut().enumerate() {
+        *place = first + (i as u64) * STEP;
     }
 }
 

@@ -5,6 +5,9 @@ ghost use Rattle.wire.specs.Time.{ticks_of, tick_at};
 // The ticks of a day: a tick of day is below it.
 pub const TICKS_OF_DAY: u64 = 864_000_000_000;
 
+// The ticks of a second.
+pub const TICKS_OF_SECOND: u64 = 10_000_000;
+
 // A span or an instant in ticks of 100 ns.
 #[derive(Clone, Copy, Debug, PartialEq, Eq, PartialOrd, Ord)]
 pub struct Ticks {
@@ -35,6 +38,6 @@ pub fn tick_at(hour: u16, minute: u16, second: u16, fraction: u32) -> Ticks
 {
     let seconds = (u64::from(hour) * 60 + u64::from(minute)) * 60 + u64::from(second);
     Ticks {
-        ticks: seconds * 10_000_000 + u64::from(fraction),
+        ticks: seconds * TICKS_OF_SECOND + u64::from(fraction),
     }
 }

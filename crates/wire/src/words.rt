@@ -6,7 +6,7 @@ ghost use Rattle.wire.specs.Words.{pairs_of, words_of, writable, words_or_zero, 
 
 use crate::digits::{pair, split, two};
 use crate::numbers::Refusal;
-use crate::time::{TICKS_OF_DAY, Ticks, tick_at};
+use crate::time::{TICKS_OF_DAY, TICKS_OF_SECOND, Ticks, tick_at};
 
 // A day in shares of a hundred days, rounded up, as the next three are, so that no whole unit is counted short.
 const DAY_IN_HUNDREDS: u64 = 1_407_374_883_554;
@@ -43,7 +43,7 @@ fn word(high: u64, low: u64) -> u16
     pair(high) * 256 + pair(low)
 }
 
-// A day and a tick of day that have words.
+// A day of at most three digits, and a tick of a day. `write_words` asks for more before it makes one.
 #[derive(Clone, Copy)]
 struct InYear {
     day: u64,
@@ -67,7 +67,7 @@ impl InYear {
         ensures { result ≡ pairs_of self.day self.tick }
     {
         let whole = self.whole_seconds();
-        let tenths = (self.tick - whole * 10_000_000) * 10;
+        let tenths = (self.tick - whole * TICKS_OF_SECOND) * 10;
         let hundreds = split(self.day * DAY_IN_HUNDREDS);
         let days = split(hundreds.rest * 100);
         let hours = split(whole * SECOND_IN_HOURS);

@@ -15,9 +15,7 @@ use std::io;
 use std::io::Read;
 use telling::put_time;
 use wire::numbers::number_of;
-use wire::time::Ticks;
-
-const SECOND: u64 = 10_000_000;
+use wire::time::{TICKS_OF_SECOND, Ticks};
 
 // The card with a day in it, lawful or not.
 fn holding(card: Card, year: u16, day: u16) -> Card {
@@ -43,7 +41,13 @@ fn put_end(rt: &impl Print, card: Card, year: u16, day: u16) -> io::Result<()> {
     let set = set_time(card, year, day, 23, 59, 59);
     put(rt, number_of(&set.outcome))?;
     let mut row = [0u64; 1];
-    let w = wait(set.after, Ticks { ticks: SECOND }, &mut row);
+    let w = wait(
+        set.after,
+        Ticks {
+            ticks: TICKS_OF_SECOND,
+        },
+        &mut row,
+    );
     put(rt, number_of(&w.outcome))?;
     put_time(rt, w.after.clock.time)
 }

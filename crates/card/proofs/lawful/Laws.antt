@@ -1,5 +1,5 @@
 -- The parts of a card in the order in which the code asks them, and what a lawful card tells of each. Assumes nothing.
-use mathlib.Core.Path.{◌≡◌, refl}
+use mathlib.Core.Path.{◌≡◌, refl, ap, ◌∙◌}
 use mathlib.Core.Bool.{Bool, true, false, ◌&&◌}
 use Rattle.wire.proofs.digits.Laws.{and_both}
 use Rattle.clock.specs.Clocks.{clock_lawful}
@@ -61,6 +61,10 @@ clock_first c = go (rest_lawful c) (clock_lawful c.clock)
     go true false = refl
     go false true = refl
     go false false = refl
+
+-- of a card whose clock is lawful, the other parts decide
+pub clock_lawful_lem : (c : Card) → clock_lawful c.clock ≡ true → lawful c ≡ rest_lawful c
+clock_lawful_lem c e = clock_first c ∙ ap (λ (t : Bool). t && rest_lawful c) e
 
 -- a lawful card is lawful in each part, and a card lawful in each part is
 pub record Parts (c : Card) : Type 0 where

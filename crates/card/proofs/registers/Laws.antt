@@ -12,17 +12,17 @@ use Rattle.clock.proofs.time.Laws.{in_range_lem, days_in_year}
 use Rattle.clock.proofs.lawful.Laws as clock
 use Rattle.card.specs.declared.card.Card.{Card}
 use Rattle.parts.specs.Events.{matching}
-use Rattle.parts.specs.Interrupts.{interrupts_written}
+use Rattle.parts.specs.Interrupts.{interrupts_written, line_up}
 use Rattle.card.specs.Cards.{answer, with_interrupts, with_queue}
 use Rattle.parts.specs.Pending.{raised, cleared}
 use Rattle.parts.specs.Queues.{enqueued}
-use Rattle.std.specs.Prelude.{Result, Ok, Err, ⊤}
+use Rattle.std.specs.Prelude.{Option, Some, Result, Ok, Err, ⊤}
 use Rattle.wire.specs.Numbers.{answered}
 use Rattle.wire.specs.declared.numbers.Refusal.{Refusal}
 use Rattle.wire.proofs.numbers.Names.{done_by, refused_by}
 use Rattle.parts.proofs.interrupts.Laws.{writes_intstat}
 use Rattle.card.specs.Lawful.{lawful}
-use Rattle.card.specs.Registers.{read_refusal, read_register, words_at, write_refusal, write_register, written, matched, edge}
+use Rattle.card.specs.Registers.{read_refusal, read_register, words_at, write_refusal, write_register, written, matched, edge, request, line_refusal, line}
 use Rattle.wire.proofs.words.Laws.{words_within, in_ranges}
 use Rattle.wire.proofs.words.RoundTrip.{read_written}
 use Rattle.parts.proofs.queue.Laws.{fill_within}
@@ -108,6 +108,11 @@ module _ (c : Card) (v : ℕ) (l : lawful c ≡ true) where
   pub fifo_joins : (c.queue.fill ≡ 64 → ⊥) → write_register c 13 v ≡ answer (with_queue c (enqueued c.queue (v % 256))) 0
   unfolding write_register write_refusal written
   fifo_joins e = simp (l, ne_eqb c.queue.fill 64 e)
+
+-- a line that is up requests its level and vector
+pub line_up_lem : (c : Card) → lawful c ≡ true → line_up c.interrupts ≡ true → Ok (Some (request c.interrupts.level c.interrupts.vector)) ≡ line c
+unfolding line line_refusal
+line_up_lem c l u = simp (l, u)
 
 -- a full queue is refused by 3
 pub write_3 : (k : Bool) (reg fill : ℕ) → k ≡ true → reg ≡ 13 → fill ≡ 64 → 3 ≡ write_refusal k reg fill
