@@ -16,8 +16,9 @@ use Rattle.parts.specs.Interrupts.{interrupts_written, line_up}
 use Rattle.card.specs.Cards.{answer, with_interrupts, with_queue}
 use Rattle.parts.specs.Pending.{raised, cleared}
 use Rattle.parts.specs.Queues.{enqueued}
-use Rattle.std.specs.Prelude.{Option, Some, Result, Ok, Err, ⊤}
+use Rattle.std.specs.Prelude.{Some, Result, Ok, Err, ⊤}
 use Rattle.wire.specs.Numbers.{answered}
+use Rattle.wire.specs.declared.numbers.Answer.{Answer}
 use Rattle.wire.specs.declared.numbers.Refusal.{Refusal}
 use Rattle.wire.proofs.numbers.Names.{done_by, refused_by}
 use Rattle.parts.proofs.interrupts.Laws.{writes_intstat}
@@ -80,9 +81,10 @@ module _ (c : Card) (reg v : ℕ) (k : Bool) (r : Result ⊤ Refusal) (ek : k �
       let z = (done_by (write_refusal (lawful c) reg c.queue.fill) tt u (sym by_card ∙ e)).0 in
       (write_known (lawful c) reg c.queue.fill z, z)
 
-  pub write_done : (u : ⊤) → r ≡ Ok u → written c reg v ≡ write_register c reg v
+  -- one that may is written by its number
+  pub write_done : (u : ⊤) → r ≡ Ok u → (k : ℕ) → reg ≡ k → (a : Answer Card ⊤) → a ≡ written c k v → a ≡ write_register c reg v
   unfolding write_register
-  write_done u e = simp ((write_passed u e).1)
+  write_done u e k n a w = w ∙ ap (λ (i : ℕ). written c i v) (sym n) ∙ simp ((write_passed u e).1)
 
   pub write_stops : (e : Refusal) → r ≡ Err e → record { after = c; outcome = Err e } ≡ write_register c reg v
   unfolding write_register
