@@ -7,10 +7,12 @@
 
 mod lines;
 
-use crate::lines::{Lines, put_line, write_out};
+ghost use Rattle.std.specs.Prelude.{◌≡◌, ◌+◌, ◌≤◌, IfOk};
+
+use crate::lines::{Lines, no_lines, put_out, write_out};
 use irig::stream::{Stream, fresh_stream, take_row};
 use std::io;
-use std::io::{Cursor, Read};
+use std::io::Read;
 use std::ops::ControlFlow;
 
 // The stream after a part of the input, and how many elements were taken of the whole input. 64 bits count more elements than any input has; behind so many the count would
@@ -29,7 +31,10 @@ fn take_part(
     kept: &mut Kept,
     part: &[u8],
     lines: &mut Lines,
-) -> io::Result<ControlFlow<()>> {
+) -> io::Result<ControlFlow<()>>
+    requires { lines.old.fill + 84 ≤ 65536 }
+    ensures { IfOk result (λ _. lines.new.fill + 84 ≤ 65536) }
+{
     let mut rest = part;
     while !rest.is_empty() {
         let answer = take_row(kept.stream, rest);
@@ -43,7 +48,7 @@ fn take_part(
             taken: kept.taken.wrapping_add(t.taken as u64),
         };
         if let Some(frame) = t.finished {
-            put_line(rt, kept.taken, frame, lines)?;
+            put_out(rt, kept.taken, frame, lines)?;
         }
     }
     write_out(rt, lines)?;
@@ -56,7 +61,9 @@ fn run(
     reader: &mut impl Read,
     input: &mut [u8],
     lines: &mut Lines,
-) -> io::Result<()> {
+) -> io::Result<()>
+    requires { lines.old.fill + 84 ≤ 65536 }
+{
     let mut kept = Kept {
         stream: fresh_stream(),
         taken: 0,
@@ -73,6 +80,6 @@ fn run(
 // A write that fails is the end.
 fn main(rt: HostRuntime) -> io::Result<()> {
     let mut input = [0u8; 65536];
-    let mut lines = Cursor::new([0u8; 65536]);
+    let mut lines = no_lines();
     run(&rt, &mut rt.reader(), &mut input, &mut lines)
 }

@@ -156,8 +156,9 @@ fn run(name: &[u8], times: usize, row: &mut [u64]) -> Option<u64>
 fn run_argument(rt: &impl Print, name: &[u8], times: usize, row: &mut [u64]) -> io::Result<()>
     requires { length row.old ≤ 1000000 }
 {
+    let outcome = run(name, times, row);
     rt.write_all(name)?;
-    match run(name, times, row) {
+    match outcome {
         Some(sum) => put(rt, sum)?,
         None => rt.write_all(b" unknown")?,
     }

@@ -66,6 +66,9 @@ clock_first c = go (rest_lawful c) (clock_lawful c.clock)
 pub clock_lawful_lem : (c : Card) → clock_lawful c.clock ≡ true → lawful c ≡ rest_lawful c
 clock_lawful_lem c e = clock_first c ∙ ap (λ (t : Bool). t && rest_lawful c) e
 
+pub clock_unlawful : (c : Card) → clock_lawful c.clock ≡ false → lawful c ≡ false
+clock_unlawful c e = clock_first c ∙ ap (λ (t : Bool). t && rest_lawful c) e
+
 -- a lawful card is lawful in each part, and a card lawful in each part is
 pub record Parts (c : Card) : Type 0 where
   pub interrupts : interrupts_lawful c.interrupts ≡ true

@@ -66,7 +66,7 @@ weighed_is Element.marker e = refl
 weighed_is Element.spare e = omega arith
 weighed_is (Element.bit f i) e = shifted e (field_shift f) i ∙ one_field f (e * 2 ^ i) ∙ omega arith
 
-zero_sum : (a e : ℕ) → (eqb a 0 && ltb e 1) ≡ eqb (a + e) 0
+pub zero_sum : (a e : ℕ) → (eqb a 0 && ltb e 1) ≡ eqb (a + e) 0
 zero_sum a e =
     ⊎_elim
     (λ p. ⊎_elim

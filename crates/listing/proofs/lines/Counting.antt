@@ -247,7 +247,7 @@ module _ (before now : List ℕ) (first i n : ℕ) (s : Spelled n before first) 
   more_at = ap (λ (l : List ℕ). get_or l i 0) stored ∙ get_or_at c.front (suc c.digit) (replicate c.nines 0) 0 i c.place
 
   -- the number has a digit more
-  counted_before : i < first → Spelled (suc n) (set now i (get_or now i 0 + 1)) i
+  pub counted_before : i < first → Spelled (suc n) (set now i (get_or now i 0 + 1)) i
   counted_before h =
       spelled_next i
       (record {
@@ -269,7 +269,7 @@ module _ (before now : List ℕ) (first i n : ℕ) (s : Spelled n before first) 
       ∙ sym (ap (λ (l : List ℕ). get_or l first 0) c.was ∙ get_or-append c.front (c.digit ∷ replicate c.nines 9) 0 first (omega (arith, c.place)))
 
   -- or as many as before
-  counted_within : first ≤ i → Spelled (suc n) (set now i (get_or now i 0 + 1)) first
+  pub counted_within : first ≤ i → Spelled (suc n) (set now i (get_or now i 0 + 1)) first
   counted_within h =
       spelled_next first
       (record {

@@ -83,6 +83,18 @@ first_none b xs h =
     place_has b xs ∙ ap (λ (k : ℕ). ltb k (length xs)) (placed_step b xs)
     ∙ none_found (ltb (position_or_len (λ x. eqb x b) xs) (length xs)) (position_or_len (λ x. eqb x b) xs) h
 
+-- a byte that is not among so many is not among fewer
+fewer_step : (t u v : Bool) → (u ≡ false → v ≡ false) → (t || u) ≡ false → (t || v) ≡ false
+fewer_step true u v g h = h
+fewer_step false u v g h = g h
+
+has_fewer : (b k m : ℕ) (row : List ℕ) → k ≤ m → has b (take m row) ≡ false → has b (take k row) ≡ false
+unfolding has
+has_fewer b zero m row l h = refl
+has_fewer b (suc k) zero row l h = absurd (omega arith)
+has_fewer b (suc k) (suc m) [] l h = refl
+has_fewer b (suc k) (suc m) (x ∷ row) l h = fewer_step (eqb x b) (has b (take m row)) (has b (take k row)) (has_fewer b k m row (omega arith)) h
+
 -- THE TABLE UP TO 6
 
 -- a packet that is read, with whether it needs the jam off
@@ -121,52 +133,52 @@ between row zero = cc
 between [] (suc e) = take_all (suc e - 1) [] (omega arith)
 between (x ∷ row) (suc e) = ap (λ (k : ℕ). take k row) (let q : suc e - 1 ≡ e = omega arith in q)
 
--- a row that starts with 0x01, in whose first m bytes the code looks for 0x17; m is the least of 41 and the row's length
-module _ (row : List ℕ) (n : 1 ≤ length row) (f : get_or row 0 0 ≡ 1) (m : ℕ) (em : m ≡ min (length row) 41) where
+-- a row that starts with 0x01
+module _ (row : List ℕ) (n : 1 ≤ length row) (f : get_or row 0 0 ≡ 1) where
   starts : (eqb (length row) 0 || not (eqb (get_or row 0 0) 1)) ≡ false
   starts = simp (ne_eqb (length row) 0 (λ z. omega arith), eq-eqb (get_or row 0 0) 1 f)
 
-  front_length : length (take m row) ≡ m
-  front_length = length-take-le m row (omega arith)
+  -- in whose first m bytes the code looks for 0x17; m is the least of 41 and the row's length
+  module _ (m : ℕ) (em : m ≡ min (length row) 41) where
+    front_length : length (take m row) ≡ m
+    front_length = length-take-le m row (omega arith)
 
-  front_41 : take m row ≡ take 41 row
-  front_41 =
-      ⊎_elim
-      (λ l. take_all m row (omega arith) ∙ sym (take_all 41 row (omega arith)))
-      (λ g. let q : m ≡ 41 = omega arith in ap (λ (k : ℕ). take k row) q)
-      (lt_or_le (length row) 41)
+    front_41 : take m row ≡ take 41 row
+    front_41 =
+        ⊎_elim
+        (λ l. take_all m row (omega arith) ∙ sym (take_all 41 row (omega arith)))
+        (λ g. let q : m ≡ 41 = omega arith in ap (λ (k : ℕ). take k row) q)
+        (lt_or_le (length row) 41)
 
-  -- found at e
-  module _ (e : ℕ) (h : position (λ x. eqb x 0x17) (take m row) ≡ Some e) where
-    place : place_of 0x17 (take m row) ≡ e
-    place = (first_some 0x17 (take m row) e h).1
+    -- found at e
+    module _ (e : ℕ) (h : position (λ x. eqb x 0x17) (take m row) ≡ Some e) where
+      place : place_of 0x17 (take m row) ≡ e
+      place = (first_some 0x17 (take m row) e h).1
 
-    in_front : e < m
-    in_front = let q = ltb-true (place_of 0x17 (take m row)) (length (take m row)) (sym (place_has 0x17 (take m row)) ∙ (first_some 0x17 (take m row) e h).0) in omega (arith, place, front_length)
+      in_front : e < m
+      in_front = let q = ltb-true (place_of 0x17 (take m row)) (length (take m row)) (sym (place_has 0x17 (take m row)) ∙ (first_some 0x17 (take m row) e h).0) in omega (arith, place, front_length)
 
-    reads_found : read_packet row ≡ with_jam (read_body (take (e - 1) (drop 1 row)))
-    reads_found =
-        let p : place_of 0x17 row ≡ e = place_front 0x17 m row (omega (arith, front_length, place, in_front)) ∙ place in
-        let i : has 0x17 row ≡ true = place_has 0x17 row ∙ lt-ltb (place_of 0x17 row) (length row) (omega (arith, in_front)) in
-        framed_row row starts e p (ap (has 0x17) (sym front_41) ∙ (first_some 0x17 (take m row) e h).0) i ∙ ap (λ (b : List ℕ). with_jam (read_body b)) (sym (between row e))
+      reads_found : read_packet row ≡ with_jam (read_body (take (e - 1) (drop 1 row)))
+      reads_found =
+          let p : place_of 0x17 row ≡ e = place_front 0x17 m row (omega (arith, front_length, place, in_front)) ∙ place in
+          let i : has 0x17 row ≡ true = place_has 0x17 row ∙ lt-ltb (place_of 0x17 row) (length row) (omega (arith, in_front)) in
+          framed_row row starts e p (ap (has 0x17) (sym front_41) ∙ (first_some 0x17 (take m row) e h).0) i ∙ ap (λ (b : List ℕ). with_jam (read_body b)) (sym (between row e))
 
-    pub reads_packet : (p : Packet) (needs : Bool) → read_body (take (e - 1) (drop 1 row)) ≡ Ok p → needs ≡ needs_jam_off p → Ok (record { packet = p; needs_jam_off = needs }) ≡ read_packet row
-    unfolding with_jam
-    reads_packet p needs q j = ap (λ (t : Bool). Ok (record { packet = p; needs_jam_off = t })) j ∙ sym (reads_found ∙ ap with_jam q)
+      pub reads_packet : (p : Packet) (needs : Bool) → read_body (take (e - 1) (drop 1 row)) ≡ Ok p → needs ≡ needs_jam_off p → Ok (record { packet = p; needs_jam_off = needs }) ≡ read_packet row
+      unfolding with_jam
+      reads_packet p needs q j = ap (λ (t : Bool). Ok (record { packet = p; needs_jam_off = t })) j ∙ sym (reads_found ∙ ap with_jam q)
 
-    pub reads_refusal : (r : Refusal) → read_body (take (e - 1) (drop 1 row)) ≡ Err r → Err r ≡ read_packet row
-    unfolding with_jam
-    reads_refusal r q = sym (reads_found ∙ ap with_jam q)
+      pub reads_refusal : (r : Refusal) → read_body (take (e - 1) (drop 1 row)) ≡ Err r → Err r ≡ read_packet row
+      unfolding with_jam
+      reads_refusal r q = sym (reads_found ∙ ap with_jam q)
 
-  -- not found
-  module _ (h : position (λ x. eqb x 0x17) (take m row) ≡ None) where
-    pub reads_5 : m ≡ 41 → Err Refusal.TooLong ≡ read_packet row
-    reads_5 l = sym (too_long row starts (omega arith) (ap (has 0x17) (sym front_41) ∙ first_none 0x17 (take m row) h))
+  -- and among whose first m bytes is none; m is 41 or more, or the row's length
+  module _ (m : ℕ) (h : position (λ x. eqb x 0x17) (take m row) ≡ None) where
+    pub reads_5 : 41 ≤ m → 41 ≤ length row → Err Refusal.TooLong ≡ read_packet row
+    reads_5 k l = sym (too_long row starts l (has_fewer 0x17 41 m row k (first_none 0x17 (take m row) h)))
 
-    pub reads_6 : (m ≡ 41 → ⊥) → Err Refusal.NoEnd ≡ read_packet row
-    reads_6 l =
-        let w : take m row ≡ row = take_all m row (omega arith) in
-        sym (no_end row starts (omega arith) (ap (has 0x17) (sym w) ∙ first_none 0x17 (take m row) h))
+    pub reads_6 : length row ≤ m → length row ≤ 40 → Err Refusal.NoEnd ≡ read_packet row
+    reads_6 k l = sym (no_end row starts l (ap (has 0x17) (sym (take_all m row k)) ∙ first_none 0x17 (take m row) h))
 
 pub start_empty : (row : List ℕ) → length row < 1 → Err Refusal.NoStart ≡ read_packet row
 start_empty row l = let z : length row ≡ 0 = omega arith in sym (no_start row (simp (eq-eqb (length row) 0 z)))

@@ -14,11 +14,11 @@ returns-in_default-2 c = start_other _ (omega arith) (λ e. omega arith)
 
 pub returns-then-looked_at-eq41 : goal.returns-then-looked_at-eq41
 returns-then-looked_at-eq41 c =
-    reads_5 c.args.row.now (omega arith) (omega arith) _ c.min-looked_at.ensures (sym c.end_of.ensures ∙ c.in_default-end_of.is) c.if-looked_at-eq41.true
+    reads_5 c.args.row.now (omega arith) (omega arith) _ (sym c.end_of.ensures ∙ c.in_default-end_of.is) (omega arith) (omega arith)
 
 pub returns-else-looked_at-eq41 : goal.returns-else-looked_at-eq41
 returns-else-looked_at-eq41 c =
-    reads_6 c.args.row.now (omega arith) (omega arith) _ c.min-looked_at.ensures (sym c.end_of.ensures ∙ c.in_default-end_of.is) c.if-looked_at-eq41.false
+    reads_6 c.args.row.now (omega arith) (omega arith) _ (sym c.end_of.ensures ∙ c.in_default-end_of.is) (omega arith) (omega arith)
 
 pub returns-in_err-packet : goal.returns-in_err-packet
 returns-in_err-packet c =
