@@ -23,10 +23,10 @@ returns-else-looked_at-eq41 c =
 pub returns-in_err-packet : goal.returns-in_err-packet
 returns-in_err-packet c =
     passed_on _ _ c.from_residual.ensures.1
-    ∙ reads_refusal c.args.row.now (omega arith) (omega arith) _ c.min-looked_at.ensures _ (sym c.end_of.ensures ∙ c.in-Some.is) _
+    ∙ reads_refusal c.args.row.now (omega arith) (omega arith) _ (omega arith) _ (sym c.end_of.ensures ∙ c.in-Some.is) _
     (sym c.read_body.ensures ∙ c.in_err-packet.was)
 
 pub returns : goal.returns
 returns c =
-    reads_packet c.args.row.now (omega arith) (omega arith) _ c.min-looked_at.ensures _ (sym c.end_of.ensures ∙ c.in-Some.is) _ _
+    reads_packet c.args.row.now (omega arith) (omega arith) _ (omega arith) _ (sym c.end_of.ensures ∙ c.in-Some.is) _ _
     (sym c.read_body.ensures ∙ c.in_ok-packet.was) c.needs_jam_off.ensures
